@@ -1,0 +1,4 @@
+// Number rules.
+pub fn stub() -> u8 {
+    0
+}
