@@ -27,3 +27,34 @@ pub enum Type {
     Boolean,
     Class(u16),
 }
+
+// A node as it stands in the file: a kind and three numbers.
+#[derive(Clone, Copy)]
+pub struct Raw {
+    pub kind: u16,
+    pub a: u16,
+    pub b: u16,
+    pub d: u16,
+}
+
+// What a node is: an expression, which has a value, or a command.
+#[derive(Clone, Copy, PartialEq, Eq)]
+pub enum Sort {
+    Expression,
+    Command,
+}
+
+// A part of a node: the node it refers to, and the sort that this must be of.
+#[derive(Clone, Copy)]
+pub struct Part {
+    pub node: u16,
+    pub sort: Sort,
+}
+
+// The parts of a node, by the number that names them.
+#[derive(Clone, Copy)]
+pub struct Parts {
+    pub a: Option<Part>,
+    pub b: Option<Part>,
+    pub d: Option<Part>,
+}

@@ -1,0 +1,81 @@
+// The numbers of a book's file. Each function is total, as its definition is: a byte past the end counts as 0.
+ghost use mathlib.Core.Path.{_≡_};
+ghost use Prim.Native.Nat.{ℕ, _+_, _*_, _^_, _<_, _≤_};
+ghost use lib.ListN.{length, getD, drop};
+ghost use Rattle.book.specs.Counting.{total};
+ghost use Rattle.book.specs.Layout.{word, entry-word, header, raw-node, name-bytes};
+use crate::node::Raw;
+
+// The places of the header's numbers.
+pub(crate) const VERSION: usize = 0;
+pub(crate) const CLASSES: usize = 1;
+pub(crate) const FIELDS: usize = 2;
+pub(crate) const METHODS: usize = 3;
+pub(crate) const NODES: usize = 4;
+pub(crate) const NAMES: usize = 5;
+pub(crate) const CLASS_PART: usize = 6;
+pub(crate) const FIELD_PART: usize = 7;
+pub(crate) const METHOD_PART: usize = 8;
+pub(crate) const NODE_PART: usize = 9;
+pub(crate) const NAME_PART: usize = 10;
+pub(crate) const TOP: usize = 11;
+
+fn byte_at(bytes: &[u8], i: usize) -> u8
+    ensures { λ r. ⌜ r ≡ getD (now (bytes .entry)) i 0 ⌝ }
+{
+    if i < bytes.len() { bytes[i] } else { 0 }
+}
+
+// The number at a byte offset, low byte first.
+pub(crate) fn word_at(bytes: &[u8], i: usize) -> u16
+    requires { ⌜ i < 2 ^ 32 ⌝ }
+    ensures { λ r. ⌜ r ≡ word (now (bytes .entry)) i ⌝ }
+{
+    u16::from(byte_at(bytes, i)) + 256 * u16::from(byte_at(bytes, i + 1))
+}
+
+// The number at a header place.
+pub(crate) fn header_at(bytes: &[u8], place: usize) -> u16
+    requires { ⌜ place < 12 ⌝ }
+    ensures { λ r. ⌜ r ≡ header (now (bytes .entry)) place ⌝ }
+{
+    word_at(bytes, 2 * place)
+}
+
+// The sum of one number of each of the first `n` entries of a part, which stands in entry 0 at an offset.
+pub(crate) fn sum_words(bytes: &[u8], offset: usize, size: usize, n: usize) -> usize
+    requires { ⌜ offset + size * n < 2 ^ 32 ⌝ ∗ ⌜ n < 2 ^ 32 ⌝ }
+    ensures sum { λ r. ⌜ r ≡ total (entry-word (now (bytes .entry)) offset size) n ⌝ }
+    ensures bound { λ r. ⌜ r ≤ 65535 * n ⌝ }
+{
+    let mut sum = 0;
+    for i in 0..n {
+        sum += usize::from(word_at(bytes, offset + size * i));
+    }
+    sum
+}
+
+// Node `k` as it stands in the file.
+pub(crate) fn raw_node(bytes: &[u8], k: usize) -> Raw
+    requires { ⌜ k < 2 ^ 16 ⌝ }
+    ensures { λ r. ⌜ r ≡ raw-node (now (bytes .entry)) k ⌝ }
+{
+    let part = usize::from(header_at(bytes, NODE_PART));
+    let kind = word_at(bytes, part + 8 * k);
+    let a = word_at(bytes, part + 2 + 8 * k);
+    let b = word_at(bytes, part + 4 + 8 * k);
+    let d = word_at(bytes, part + 6 + 8 * k);
+    Raw { kind, a, b, d }
+}
+
+// The bytes from the name part on.
+pub(crate) fn name_bytes<'a>(bytes: &'a [u8]) -> &'a [u8]
+    ensures { λ r. ⌜ now r ≡ name-bytes (now (bytes .entry)) ⌝ }
+{
+    let start = usize::from(header_at(bytes, NAME_PART));
+    if start > bytes.len() {
+        &[]
+    } else {
+        &bytes[start..]
+    }
+}
