@@ -17,7 +17,7 @@ pub total-more : (f : ℕ → ℕ) (n : ℕ) → total f (n + 1) ≡ total f n +
 total-more f n = rw add-one
 
 -- a part of a product
-pub times-below : (a b c n : ℕ) → b < c → n + a * c < 2 ^ 32 → n + a * b < 2 ^ 32
+pub times-below : (a b c n : ℕ) → b < c → n + a * c < 2 ^ 48 → n + a * b < 2 ^ 48
 times-below a b c n h l = let m : a * b ≤ a * c = mul-le-mul-left a (omega arith) in omega arith
 
 -- what a search finds
@@ -40,3 +40,10 @@ none-more t n h e k l = elim (cases-eq k n) [ inl same ↦ subst (λ j. t j ≡ 
 pub total-both : (f g : ℕ → ℕ) (n : ℕ) → total (λ i. f i + g i) n ≡ total f n + total g n
 total-both f g zero = refl
 total-both f g (suc n) = let h = total-both f g n in omega arith
+
+pub total-mono : (f : ℕ → ℕ) (a b : ℕ) → a ≤ b → total f a ≤ total f b
+total-mono f a zero h = let e : a ≡ 0 = omega arith in rw e (omega arith)
+total-mono f a (suc b) h =
+    elim (cases-eq a (suc b)) [
+      inl same ↦ rw same (omega arith)
+    | inr other ↦ let l = total-mono f a b (omega arith) in omega arith ]

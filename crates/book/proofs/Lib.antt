@@ -1,2 +1,4 @@
 pub mod Counts
 pub mod Firsts
+pub mod Laying
+pub mod Marking

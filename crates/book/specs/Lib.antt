@@ -4,4 +4,5 @@ pub mod Kinds
 pub mod Names
 pub mod Strips
 pub mod Faults
+pub mod Noted
 pub mod Books

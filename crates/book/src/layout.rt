@@ -28,7 +28,7 @@ fn byte_at(bytes: &[u8], i: usize) -> u8
 
 // The number at a byte offset, low byte first.
 pub(crate) fn word_at(bytes: &[u8], i: usize) -> u16
-    requires { ⌜ i < 2 ^ 32 ⌝ }
+    requires { ⌜ i < 2 ^ 48 ⌝ }
     ensures { λ r. ⌜ r ≡ word (now (bytes .entry)) i ⌝ }
 {
     u16::from(byte_at(bytes, i)) + 256 * u16::from(byte_at(bytes, i + 1))
@@ -44,7 +44,7 @@ pub(crate) fn header_at(bytes: &[u8], place: usize) -> u16
 
 // The sum of one number of each of the first `n` entries of a part, which stands in entry 0 at an offset.
 pub(crate) fn sum_words(bytes: &[u8], offset: usize, size: usize, n: usize) -> usize
-    requires { ⌜ offset + size * n < 2 ^ 32 ⌝ ∗ ⌜ n < 2 ^ 32 ⌝ }
+    requires { ⌜ offset + size * n < 2 ^ 48 ⌝ ∗ ⌜ n < 2 ^ 32 ⌝ }
     ensures sum { λ r. ⌜ r ≡ total (entry-word (now (bytes .entry)) offset size) n ⌝ }
     ensures bound { λ r. ⌜ r ≤ 65535 * n ⌝ }
 {
@@ -57,7 +57,7 @@ pub(crate) fn sum_words(bytes: &[u8], offset: usize, size: usize, n: usize) -> u
 
 // Node `k` as it stands in the file.
 pub(crate) fn raw_node(bytes: &[u8], k: usize) -> Raw
-    requires { ⌜ k < 2 ^ 16 ⌝ }
+    requires { ⌜ k < 2 ^ 40 ⌝ }
     ensures { λ r. ⌜ r ≡ raw-node (now (bytes .entry)) k ⌝ }
 {
     let part = usize::from(header_at(bytes, NODE_PART));

@@ -6,6 +6,7 @@ mod kinds;
 mod layout;
 mod names;
 pub mod node;
+mod nodes;
 
 // The bytes of a file that is a book.
 #[derive(Drop)]
