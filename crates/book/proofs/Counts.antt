@@ -7,8 +7,8 @@ use Prim.Native.Nat.{ℕ, zero, suc, _+_, _*_, _^_, _<_, _≤_}
 use native.Mathlib.Nat.{mul-le-mul-left}
 use native.Mathlib.Numerals.{add-one}
 use native.Mathlib.Omega.{arith}
-use lib.Dec.{eqb}
-use Rattle.std.proofs.shelf.Tests.{cases-bool, cases-eq, eqb-true, ne-eqb, eq-eqb, or-parts, or-from, or-left, or-right, and-left, and-right, and-from, both-ways}
+use lib.Dec.{eqb, leb}
+use Rattle.std.proofs.shelf.Tests.{cases-eq, leb-true, ne-eqb, eq-eqb, or-from, or-left, or-right, and-left, and-right, and-from, and-parts}
 use Rattle.std.specs.declared.option.Option.{Option}
 use Rattle.std.specs.declared.option.Option.the-variants.{Some, None}
 use Rattle.book.specs.Counting.{total, any-below, at-place, first-place, Lowest}
@@ -47,3 +47,28 @@ total-mono f a (suc b) h =
     elim (cases-eq a (suc b)) [
       inl same ↦ rw same (omega arith)
     | inr other ↦ let l = total-mono f a b (omega arith) in omega arith ]
+
+-- the places of a table ascend, from p on
+abbrev pub ascends : ℕ → List (ℕ × Bool) → Bool
+ascends p [] = true
+ascends p (x ∷ xs) = leb p (x .0) && ascends (suc (x .0)) xs
+
+-- no test stands below the first place
+below-all : (t : List (ℕ × Bool)) (p q : ℕ) → ascends p t ≡ true → q < p → at-place t q ≡ false
+below-all [] p q h l = refl
+below-all (x ∷ xs) p q h l =
+    let low = leb-true p (x .0) (and-parts _ _ h .0) in
+    or-from _ _ (and-left _ _ (ne-eqb q (x .0) (λ e. omega arith))) (below-all xs (suc (x .0)) q (and-parts _ _ h .1) (omega arith))
+
+lowest-same : (t u : ℕ → Bool) (o : Option ℕ) → ((q : ℕ) → t q ≡ u q) → Lowest u o → Lowest t o
+lowest-same t u None same h = λ q. same q ∙ h q
+lowest-same t u (Some p) same h = (same p ∙ h .0, λ q l. same q ∙ h .1 q l)
+
+-- so the first place whose test holds is the lowest
+pub table-lowest : (t : List (ℕ × Bool)) (p : ℕ) → ascends p t ≡ true → Lowest (at-place t) (first-place t)
+table-lowest [] p h = λ q. refl
+table-lowest ((n, true) ∷ xs) p h =
+    (or-left _ _ (and-from _ _ (eq-eqb n n refl) refl),
+    λ q l. or-from _ _ (and-left _ _ (ne-eqb q n (λ e. omega arith))) (below-all xs (suc n) q (and-parts _ _ h .1) (omega arith)))
+table-lowest ((n, false) ∷ xs) p h =
+    lowest-same _ (at-place xs) (first-place xs) (λ q. rw (and-right (eqb q n) false refl)) (table-lowest xs (suc n) (and-parts _ _ h .1))

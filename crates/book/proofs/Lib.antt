@@ -2,3 +2,4 @@ pub mod Counts
 pub mod Firsts
 pub mod Laying
 pub mod Marking
+pub mod Ranks

@@ -26,7 +26,7 @@ kinds a b d =
     ∷ Call a b d ∷ New d ∷ Reading a ∷ FieldWrite a b d ∷ Sequence a b ∷ If a b d ∷ While a b ∷ Skip ∷ []
 
 -- The node that a kind and three numbers stand for; none where there is no such kind.
-abbrev pub decoded : Raw → Option Node
+unfoldable pub decoded : Raw → Option Node
 decoded r = nth (kinds (r .a) (r .b) (r .d)) (r .kind)
 
 -- Kinds 0 to 10 are expressions, 11 to 15 commands.

@@ -5,8 +5,7 @@ ghost use Prim.Native.Nat.{ℕ, _+_, _<_, _^_};
 ghost use lib.ListN.{length};
 ghost use Rattle.std.specs.declared.option.Option.the-variants.{Some, None};
 ghost use Rattle.book.specs.Counting.{first-place, Lowest};
-ghost use Rattle.book.specs.Layout.{class-count, field-count, method-count};
-ghost use Rattle.book.specs.Faults.{wrong-version, limits, offsets, totals, no-name, no-type, wrong-class, wrong-field, wrong-method, wrong-entry};
+ghost use Rattle.book.specs.Faults.{wrong-version, limits, offsets, totals, wrong-name, no-name, no-type, wrong-class, wrong-field, wrong-method, wrong-entry};
 use crate::layout::CLASSES;
 use crate::layout::CLASS_PART;
 use crate::layout::FIELDS;
@@ -20,8 +19,11 @@ use crate::layout::NODE_PART;
 use crate::layout::TOP;
 use crate::layout::VERSION;
 use crate::layout::header_at;
+use crate::layout::name_bytes;
+use crate::layout::nodes_before;
 use crate::layout::sum_words;
 use crate::layout::word_at;
+use crate::names::wrong_name_in;
 
 pub(crate) fn is_version_wrong(bytes: &[u8]) -> bool
     ensures { λ r. ⌜ r ≡ wrong-version (now (bytes .entry)) ⌝ }
@@ -73,14 +75,12 @@ pub(crate) fn wrong_offset(bytes: &[u8]) -> Option<usize>
     }
 }
 
-// How many nodes the strips of all methods have together.
-fn nodes_of_methods(bytes: &[u8]) -> usize
-    ensures total { λ r. ⌜ r ≡ Rattle.book.specs.Counting.total (Rattle.book.specs.Layout.method-nodes (now (bytes .entry))) (method-count (now (bytes .entry))) ⌝ }
-    ensures bound { λ r. ⌜ r < 2 ^ 34 ⌝ }
+// The lowest name that is faulty, cut or the same as an earlier one, or the number after the last where bytes follow it.
+pub(crate) fn wrong_name(bytes: &[u8]) -> Option<usize>
+    ensures { λ r. ⌜ Lowest (wrong-name (now (bytes .entry))) r ⌝ }
 {
-    let part = usize::from(header_at(bytes, METHOD_PART));
-    let methods = usize::from(header_at(bytes, METHODS));
-    sum_words(bytes, part + 6, 10, methods) + sum_words(bytes, part + 8, 10, methods)
+    let count = usize::from(header_at(bytes, NAMES));
+    wrong_name_in(name_bytes(bytes), count)
 }
 
 // The first header place of a count that the entries' own counts do not add up to.
@@ -95,7 +95,8 @@ pub(crate) fn wrong_total(bytes: &[u8]) -> Option<usize>
     if sum_words(bytes, part + 4, 6, classes) != usize::from(header_at(bytes, METHODS)) {
         return Some(METHODS);
     }
-    let nodes = nodes_of_methods(bytes) + usize::from(header_at(bytes, TOP));
+    let methods = usize::from(header_at(bytes, METHODS));
+    let nodes = nodes_before(bytes, methods) + usize::from(header_at(bytes, TOP));
     if nodes != usize::from(header_at(bytes, NODES)) {
         return Some(NODES);
     }

@@ -1,7 +1,8 @@
 // The kinds of nodes: from numbers to a node, and what a node's numbers name.
 ghost use mathlib.Core.Path.{_≡_};
 ghost use Prim.Native.Nat.{_+_, _*_};
-ghost use Rattle.book.specs.Kinds.{signed32, decoded, of-sort, parts, numbers-right};
+ghost use Rattle.std.specs.Finite.{nth};
+ghost use Rattle.book.specs.Kinds.{signed32, kinds, decoded, of-sort, parts, numbers-right, expression as an-expression, command as a-command};
 use crate::node::Node;
 use crate::node::Part;
 use crate::node::Parts;
@@ -20,11 +21,10 @@ fn literal(b: u16, d: u16) -> i32
     }
 }
 
-// The node that stands in the file, if it is of one of the kinds.
-pub(crate) fn decode(raw: Raw) -> Option<Node>
-    ensures { λ r. ⌜ r ≡ decoded raw ⌝ }
+// The node of a kind, if there is such a kind.
+fn of_kind(kind: u16, a: u16, b: u16, d: u16) -> Option<Node>
+    ensures { λ r. ⌜ r ≡ nth (kinds a b d) kind ⌝ }
 {
-    let Raw { kind, a, b, d } = raw;
     Some(match kind {
         0 => Node::Literal { value: literal(b, d) },
         1 => Node::Minus { left: a, right: b },
@@ -46,6 +46,13 @@ pub(crate) fn decode(raw: Raw) -> Option<Node>
     })
 }
 
+// The node that stands in the file, if it is of one of the kinds.
+pub(crate) fn decode(raw: Raw) -> Option<Node>
+    ensures { λ r. ⌜ r ≡ decoded raw ⌝ }
+{
+    of_kind(raw.kind, raw.a, raw.b, raw.d)
+}
+
 // Whether a kind is of a sort.
 pub(crate) fn is_of_sort(sort: Sort, kind: u16) -> bool
     ensures { λ r. ⌜ r ≡ of-sort sort kind ⌝ }
@@ -57,13 +64,13 @@ pub(crate) fn is_of_sort(sort: Sort, kind: u16) -> bool
 }
 
 fn expression(node: u16) -> Option<Part>
-    ensures { λ r. ⌜ r ≡ Rattle.book.specs.Kinds.expression node ⌝ }
+    ensures { λ r. ⌜ r ≡ an-expression node ⌝ }
 {
     Some(Part { node, sort: Sort::Expression })
 }
 
 fn command(node: u16) -> Option<Part>
-    ensures { λ r. ⌜ r ≡ Rattle.book.specs.Kinds.command node ⌝ }
+    ensures { λ r. ⌜ r ≡ a-command node ⌝ }
 {
     Some(Part { node, sort: Sort::Command })
 }

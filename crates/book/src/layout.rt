@@ -3,8 +3,16 @@ ghost use mathlib.Core.Path.{_≡_};
 ghost use Prim.Native.Nat.{ℕ, _+_, _*_, _^_, _<_, _≤_};
 ghost use lib.ListN.{length, getD, drop};
 ghost use Rattle.book.specs.Counting.{total};
-ghost use Rattle.book.specs.Layout.{word, entry-word, header, raw-node, name-bytes};
+ghost use Rattle.book.specs.Layout.{word, entry-word, header, raw-node, name-bytes, typed, class-count, field-count, method-count, method-nodes, class-at, field-at};
+ghost use Rattle.book.specs.Strips.{method-at};
+ghost use Rattle.std.specs.declared.option.Option.the-variants.{Some};
+use crate::entry::Class;
+use crate::entry::Field;
+use crate::entry::Method;
+use crate::entry::Strip;
 use crate::node::Raw;
+use crate::node::Sort;
+use crate::node::Type;
 
 // The places of the header's numbers.
 pub(crate) const VERSION: usize = 0;
@@ -78,4 +86,65 @@ pub(crate) fn name_bytes<'a>(bytes: &'a [u8]) -> &'a [u8]
     } else {
         &bytes[start..]
     }
+}
+
+// How many nodes the strips of the first `m` methods have together.
+pub(crate) fn nodes_before(bytes: &[u8], m: usize) -> usize
+    requires { ⌜ m < 2 ^ 16 ⌝ }
+    ensures sum { λ r. ⌜ r ≡ total (method-nodes (now (bytes .entry))) m ⌝ }
+    ensures bound { λ r. ⌜ r < 2 ^ 34 ⌝ }
+{
+    let part = usize::from(header_at(bytes, METHOD_PART));
+    sum_words(bytes, part + 6, 10, m) + sum_words(bytes, part + 8, 10, m)
+}
+
+// A type by its number.
+fn type_of(number: u16) -> Type
+    ensures { λ r. ⌜ r ≡ typed number ⌝ }
+{
+    match number {
+        0 => Type::Int,
+        1 => Type::Boolean,
+        _ => Type::Class(number - 2),
+    }
+}
+
+pub(crate) fn class_at(bytes: &[u8], i: usize) -> Class
+    requires { ⌜ i < class-count (now bytes) ⌝ ∗ ⌜ i < 2 ^ 16 ⌝ }
+    ensures { λ r. ⌜ Some r ≡ class-at (now (bytes .entry)) i ⌝ }
+{
+    let part = usize::from(header_at(bytes, CLASS_PART));
+    let name = word_at(bytes, part + 6 * i);
+    let fields = word_at(bytes, part + 2 + 6 * i);
+    let methods = word_at(bytes, part + 4 + 6 * i);
+    let first_field = sum_words(bytes, part + 2, 6, i);
+    let first_method = sum_words(bytes, part + 4, 6, i);
+    Class { name, first_field, fields, first_method, methods }
+}
+
+pub(crate) fn field_at(bytes: &[u8], j: usize) -> Field
+    requires { ⌜ j < field-count (now bytes) ⌝ ∗ ⌜ j < 2 ^ 16 ⌝ }
+    ensures { λ r. ⌜ Some r ≡ field-at (now (bytes .entry)) j ⌝ }
+{
+    let part = usize::from(header_at(bytes, FIELD_PART));
+    let name = word_at(bytes, part + 4 * j);
+    let typed = type_of(word_at(bytes, part + 2 + 4 * j));
+    Field { name, typed }
+}
+
+pub(crate) fn method_at(bytes: &[u8], m: usize) -> Method
+    requires { ⌜ m < method-count (now bytes) ⌝ ∗ ⌜ m < 2 ^ 16 ⌝ }
+    ensures { λ r. ⌜ Some r ≡ method-at (now (bytes .entry)) m ⌝ }
+{
+    let part = usize::from(header_at(bytes, METHOD_PART));
+    let name = word_at(bytes, part + 10 * m);
+    let result = type_of(word_at(bytes, part + 2 + 10 * m));
+    let parameter = type_of(word_at(bytes, part + 4 + 10 * m));
+    let first = nodes_before(bytes, m);
+    let nodes = word_at(bytes, part + 6 + 10 * m);
+    let command = Strip { first, nodes, sort: Sort::Command };
+    let first = first + usize::from(nodes);
+    let nodes = word_at(bytes, part + 8 + 10 * m);
+    let returned = Strip { first, nodes, sort: Sort::Expression };
+    Method { name, result, parameter, command, returned }
 }

@@ -83,7 +83,7 @@ fn is_among(bytes: &[u8], n: usize, name: &[u8]) -> bool
 }
 
 // The lowest of `count` names that is faulty, cut or the same as an earlier one, or `count` where bytes follow the last.
-pub(crate) fn wrong_name(bytes: &[u8], count: usize) -> Option<usize>
+pub(crate) fn wrong_name_in(bytes: &[u8], count: usize) -> Option<usize>
     ensures { λ r. ⌜ Lowest (wrong-name-in count (now (bytes .entry))) r ⌝ }
 {
     let mut rest = bytes;

@@ -4,7 +4,7 @@ use mathlib.Core.Path.{sym}
 use Rattle.book.specs.Faults.{wrong-name-in}
 use Rattle.book.proofs.Counts.{none-more}
 use Rattle.book.proofs.Firsts.{after-more, name-right}
-use Rattle.book.proofs.names.wrong_name.Needs as need
+use Rattle.book.proofs.names.wrong_name_in.Needs as need
 
 pub loop-n-again : need.loop-n-again
 loop-n-again c =
