@@ -3,3 +3,4 @@ pub mod Firsts
 pub mod Laying
 pub mod Marking
 pub mod Ranks
+pub mod Deciding

@@ -20,7 +20,7 @@ use Rattle.book.proofs.Counts.{ascends, table-lowest}
 abbrev pub numbered : ℕ → ℕ → Fault
 numbered n p = getD (Version ∷ Version ∷ Limit p ∷ Offset p ∷ Name p ∷ Total p ∷ Entry p ∷ Node p ∷ []) n Version
 
-is-numbered : (f : Fault) → f ≡ numbered (number f) (place f)
+pub is-numbered : (f : Fault) → f ≡ numbered (number f) (place f)
 is-numbered Version = refl
 is-numbered (Limit p) = refl
 is-numbered (Offset p) = refl

@@ -173,3 +173,13 @@ pub record First (bs : List ℕ) (f : Fault) : Type 0 where
 -- A file clear of all faults.
 pub record Clear (bs : List ℕ) : Type 0 where
   pub none : (f : Fault) → is-there bs f ≡ false
+
+-- The law of faults: a file is clear of all of them, or has a first one; never both, and never two first ones.
+-- So no fault refuses a file exactly when all conditions are clear.
+pub record Decided (bs : List ℕ) : Type 0 where
+  pub either : Clear bs ⊎ ((f : Fault) × First bs f)
+  pub not-both : (f : Fault) → Clear bs → First bs f → ⊥
+  pub one-first : (f g : Fault) → First bs f → First bs g → f ≡ g
+
+abbrev pub Faults-decide : Type 0
+Faults-decide = (bs : List ℕ) → Decided bs

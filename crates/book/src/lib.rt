@@ -5,7 +5,7 @@ ghost use Rattle.std.specs.Options.{Cases as BySome, mapped};
 ghost use Rattle.book.specs.Layout.{class-count, field-count, method-count, node-count, name-count, class-at, field-at};
 ghost use Rattle.book.specs.Strips.{method-at, node-at, top-strip};
 ghost use Rattle.book.specs.Names.{name-at};
-ghost use Rattle.book.specs.Faults.{First, Clear};
+ghost use Rattle.book.specs.Faults.{First, Clear, Faults-decide};
 ghost use Rattle.book.specs.Books.{bytes-of};
 
 mod base;
@@ -162,4 +162,11 @@ impl<'a> ReadBook<'a> {
             None
         }
     }
+}
+
+// Every file is clear of all faults or has one first fault: the law that reading answers by.
+pub fn faults_decide() -> bool
+    ensures { λ _. ⌜ Faults-decide ⌝ }
+{
+    true
 }
