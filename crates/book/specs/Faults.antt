@@ -11,6 +11,7 @@ use Rattle.std.specs.declared.option.Option.{Option}
 use Rattle.std.specs.declared.option.Option.the-variants.{Some, None}
 use Rattle.book.specs.declared.fault.Fault.{Fault}
 use Rattle.book.specs.declared.fault.Fault.the-variants.{Version, Limit, Offset, Name, Total, Entry, Node}
+use Rattle.book.specs.declared.fault.Refusal.{Refusal}
 use Rattle.book.specs.declared.node.Part.{Part}
 use Rattle.book.specs.declared.node.Parts.{Parts}
 use Rattle.book.specs.declared.node.Raw.{Raw}
@@ -39,6 +40,9 @@ place (Name n) = n
 place (Total p) = p
 place (Entry i) = i
 place (Node k) = k
+
+abbrev pub refusal : Fault → Refusal
+refusal f = record { number = number f; place = place f }
 
 abbrev pub differs : ℕ → ℕ → Bool
 differs m n = not (eqb m n)

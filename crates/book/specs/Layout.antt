@@ -7,6 +7,7 @@ use lib.ListN.{getD, drop}
 use lib.Dec.{eqb, ltb}
 use Rattle.std.specs.declared.option.Option.{Option}
 use Rattle.std.specs.declared.option.Option.the-variants.{Some, None}
+use Rattle.book.specs.declared.entry.Counts.{Counts}
 use Rattle.book.specs.declared.entry.Class.{Class}
 use Rattle.book.specs.declared.entry.Field.{Field}
 use Rattle.book.specs.declared.node.«Type».{«Type» as BookType}
@@ -40,6 +41,9 @@ node-count bs = header bs 4
 
 abbrev pub name-count : List ℕ → ℕ
 name-count bs = header bs 5
+
+abbrev pub counts-of : List ℕ → Counts
+counts-of bs = record { classes = class-count bs; fields = field-count bs; methods = method-count bs; nodes = node-count bs; names = name-count bs }
 
 -- The byte offsets of the five parts.
 abbrev pub class-part : List ℕ → ℕ

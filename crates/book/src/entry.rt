@@ -2,13 +2,23 @@
 use crate::node::Sort;
 use crate::node::Type;
 
+// How many classes, fields, methods, nodes and names a book has.
+#[derive(Clone, Copy)]
+pub struct Counts {
+    pub classes: u16,
+    pub fields: u16,
+    pub methods: u16,
+    pub nodes: u16,
+    pub names: u16,
+}
+
 // A class: its name number, and which fields and methods are its own.
 #[derive(Clone, Copy)]
 pub struct Class {
     pub name: u16,
-    pub first_field: usize,
+    pub first_field: u32,
     pub fields: u16,
-    pub first_method: usize,
+    pub first_method: u32,
     pub methods: u16,
 }
 

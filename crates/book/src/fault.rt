@@ -1,6 +1,6 @@
 // Why a file is no book.
 ghost use mathlib.Core.Path.{_≡_};
-ghost use Rattle.book.specs.Faults.{number, place};
+ghost use Rattle.book.specs.Faults.{refusal};
 
 #[derive(Clone, Copy, PartialEq, Eq, Debug)]
 pub enum Fault {
@@ -20,34 +20,27 @@ pub enum Fault {
     Node(usize),
 }
 
-impl Fault {
-    // The number under which the fault is refused.
-    pub fn number(self) -> u16
-        ensures { λ r. ⌜ r ≡ number self ⌝ }
-    {
-        match self {
-            Fault::Version => 1,
-            Fault::Limit(_) => 2,
-            Fault::Offset(_) => 3,
-            Fault::Name(_) => 4,
-            Fault::Total(_) => 5,
-            Fault::Entry(_) => 6,
-            Fault::Node(_) => 7,
-        }
-    }
+// How a refusal is told: by its number and its place.
+#[derive(Clone, Copy)]
+pub struct Refusal {
+    pub number: u16,
+    pub place: usize,
+}
 
-    // The place at which it is refused.
-    pub fn place(self) -> usize
-        ensures { λ r. ⌜ r ≡ place self ⌝ }
+impl Fault {
+    // The number and the place under which the fault is refused.
+    pub fn refusal(self) -> Refusal
+        ensures { λ r. ⌜ r ≡ refusal self ⌝ }
     {
-        match self {
-            Fault::Version => 0,
-            Fault::Limit(p)
-            | Fault::Offset(p)
-            | Fault::Name(p)
-            | Fault::Total(p)
-            | Fault::Entry(p)
-            | Fault::Node(p) => p,
-        }
+        let (number, place) = match self {
+            Fault::Version => (1, 0),
+            Fault::Limit(place) => (2, place),
+            Fault::Offset(place) => (3, place),
+            Fault::Name(name) => (4, name),
+            Fault::Total(place) => (5, place),
+            Fault::Entry(entry) => (6, entry),
+            Fault::Node(node) => (7, node),
+        };
+        Refusal { number, place }
     }
 }

@@ -3,10 +3,11 @@ ghost use mathlib.Core.Path.{_≡_};
 ghost use Prim.Native.Nat.{ℕ, _+_, _*_, _^_, _<_, _≤_};
 ghost use lib.ListN.{length, getD, drop};
 ghost use Rattle.book.specs.Counting.{total};
-ghost use Rattle.book.specs.Layout.{word, entry-word, header, raw-node, name-bytes, typed, class-count, field-count, method-count, method-nodes, class-at, field-at};
+ghost use Rattle.book.specs.Layout.{word, entry-word, header, raw-node, name-bytes, counts-of, typed, class-count, field-count, method-count, method-nodes, class-at, field-at};
 ghost use Rattle.book.specs.Strips.{method-at};
 ghost use Rattle.std.specs.declared.option.Option.the-variants.{Some};
 use crate::entry::Class;
+use crate::entry::Counts;
 use crate::entry::Field;
 use crate::entry::Method;
 use crate::entry::Strip;
@@ -48,6 +49,18 @@ pub(crate) fn header_at(bytes: &[u8], place: usize) -> u16
     ensures { λ r. ⌜ r ≡ header (now (bytes .entry)) place ⌝ }
 {
     word_at(bytes, 2 * place)
+}
+
+pub(crate) fn counts_of(bytes: &[u8]) -> Counts
+    ensures { λ r. ⌜ r ≡ counts-of (now (bytes .entry)) ⌝ }
+{
+    Counts {
+        classes: header_at(bytes, CLASSES),
+        fields: header_at(bytes, FIELDS),
+        methods: header_at(bytes, METHODS),
+        nodes: header_at(bytes, NODES),
+        names: header_at(bytes, NAMES),
+    }
 }
 
 // The sum of one number of each of the first `n` entries of a part, which stands in entry 0 at an offset.
@@ -117,8 +130,8 @@ pub(crate) fn class_at(bytes: &[u8], i: usize) -> Class
     let name = word_at(bytes, part + 6 * i);
     let fields = word_at(bytes, part + 2 + 6 * i);
     let methods = word_at(bytes, part + 4 + 6 * i);
-    let first_field = sum_words(bytes, part + 2, 6, i);
-    let first_method = sum_words(bytes, part + 4, 6, i);
+    let first_field = sum_words(bytes, part + 2, 6, i) as u32;
+    let first_method = sum_words(bytes, part + 4, 6, i) as u32;
     Class { name, first_field, fields, first_method, methods }
 }
 

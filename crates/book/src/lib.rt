@@ -2,7 +2,7 @@
 ghost use mathlib.Core.Path.{_≡_};
 ghost use Rattle.std.specs.Results.{Cases};
 ghost use Rattle.std.specs.Options.{Cases as BySome, mapped};
-ghost use Rattle.book.specs.Layout.{class-count, field-count, method-count, node-count, name-count, class-at, field-at};
+ghost use Rattle.book.specs.Layout.{counts-of, class-at, field-at};
 ghost use Rattle.book.specs.Strips.{method-at, node-at, top-strip};
 ghost use Rattle.book.specs.Names.{name-at};
 ghost use Rattle.book.specs.Faults.{First, Clear, Faults-decide};
@@ -20,6 +20,7 @@ mod nodes;
 
 pub use base::ReadBook;
 use entry::Class;
+use entry::Counts;
 use entry::Field;
 use entry::Method;
 use entry::Strip;
@@ -55,11 +56,13 @@ fn first_fault(bytes: &[u8]) -> Option<Fault>
     None
 }
 
-// The book that a file is, or the first fault why it is none.
+// The book that a file is, or the first fault why it is none. That every file is clear of faults or has one first fault
+// stands beside it, as a law.
 pub fn read<'a>(bytes: &'a [u8]) -> Result<ReadBook<'a>, Fault>
-    ensures { λ r. ⌜ Cases r
+    ensures answer { λ r. ⌜ Cases r
         (λ b. (bytes-of b ≡ now (bytes .entry)) × Clear (now (bytes .entry)))
         (λ f. First (now (bytes .entry)) f) ⌝ }
+    ensures law { λ _. ⌜ Faults-decide ⌝ }
 {
     match first_fault(bytes) {
         Some(fault) => Err(fault),
@@ -68,42 +71,18 @@ pub fn read<'a>(bytes: &'a [u8]) -> Result<ReadBook<'a>, Fault>
 }
 
 impl<'a> ReadBook<'a> {
-    // How many classes, fields, methods, nodes and names there are.
-    pub fn classes(&self) -> u16
-        ensures { λ r. ⌜ r ≡ class-count (bytes-of (now (self .entry))) ⌝ }
+    // How many of each there are.
+    pub fn counts(&self) -> Counts
+        ensures { λ r. ⌜ r ≡ counts-of (bytes-of (now (self .entry))) ⌝ }
     {
-        layout::header_at(self.bytes, layout::CLASSES)
-    }
-
-    pub fn fields(&self) -> u16
-        ensures { λ r. ⌜ r ≡ field-count (bytes-of (now (self .entry))) ⌝ }
-    {
-        layout::header_at(self.bytes, layout::FIELDS)
-    }
-
-    pub fn methods(&self) -> u16
-        ensures { λ r. ⌜ r ≡ method-count (bytes-of (now (self .entry))) ⌝ }
-    {
-        layout::header_at(self.bytes, layout::METHODS)
-    }
-
-    pub fn nodes(&self) -> u16
-        ensures { λ r. ⌜ r ≡ node-count (bytes-of (now (self .entry))) ⌝ }
-    {
-        layout::header_at(self.bytes, layout::NODES)
-    }
-
-    pub fn names(&self) -> u16
-        ensures { λ r. ⌜ r ≡ name-count (bytes-of (now (self .entry))) ⌝ }
-    {
-        layout::header_at(self.bytes, layout::NAMES)
+        layout::counts_of(self.bytes)
     }
 
     // Class `i`, if there is one.
     pub fn class(&self, i: usize) -> Option<Class>
         ensures { λ r. ⌜ r ≡ class-at (bytes-of (now (self .entry))) i ⌝ }
     {
-        if i < usize::from(self.classes()) {
+        if i < usize::from(self.counts().classes) {
             Some(layout::class_at(self.bytes, i))
         } else {
             None
@@ -114,7 +93,7 @@ impl<'a> ReadBook<'a> {
     pub fn field(&self, j: usize) -> Option<Field>
         ensures { λ r. ⌜ r ≡ field-at (bytes-of (now (self .entry))) j ⌝ }
     {
-        if j < usize::from(self.fields()) {
+        if j < usize::from(self.counts().fields) {
             Some(layout::field_at(self.bytes, j))
         } else {
             None
@@ -125,7 +104,7 @@ impl<'a> ReadBook<'a> {
     pub fn method(&self, m: usize) -> Option<Method>
         ensures { λ r. ⌜ r ≡ method-at (bytes-of (now (self .entry))) m ⌝ }
     {
-        if m < usize::from(self.methods()) {
+        if m < usize::from(self.counts().methods) {
             Some(layout::method_at(self.bytes, m))
         } else {
             None
@@ -136,7 +115,7 @@ impl<'a> ReadBook<'a> {
     pub fn top(&self) -> Strip
         ensures { λ r. ⌜ r ≡ top-strip (bytes-of (now (self .entry))) ⌝ }
     {
-        let first = layout::nodes_before(self.bytes, usize::from(self.methods()));
+        let first = layout::nodes_before(self.bytes, usize::from(self.counts().methods));
         let nodes = layout::header_at(self.bytes, layout::TOP);
         Strip { first, nodes, sort: Sort::Expression }
     }
@@ -145,7 +124,7 @@ impl<'a> ReadBook<'a> {
     pub fn node(&self, k: usize) -> Option<Node>
         ensures { λ r. ⌜ r ≡ node-at (bytes-of (now (self .entry))) k ⌝ }
     {
-        if k < usize::from(self.nodes()) {
+        if k < usize::from(self.counts().nodes) {
             kinds::decode(layout::raw_node(self.bytes, k))
         } else {
             None
@@ -156,17 +135,10 @@ impl<'a> ReadBook<'a> {
     pub fn name(&self, n: usize) -> Option<&'a [u8]>
         ensures { λ r. ⌜ mapped now r ≡ name-at (bytes-of (now (self .entry))) n ⌝ }
     {
-        if n < usize::from(self.names()) {
+        if n < usize::from(self.counts().names) {
             names::nth_name(layout::name_bytes(self.bytes), n)
         } else {
             None
         }
     }
-}
-
-// Every file is clear of all faults or has one first fault: the law that reading answers by.
-pub fn faults_decide() -> bool
-    ensures { λ _. ⌜ Faults-decide ⌝ }
-{
-    true
 }
