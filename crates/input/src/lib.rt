@@ -1,6 +1,8 @@
 // What a program is given: a count, that many readings, and a book.
 ghost use mathlib.Core.Path.{_≡_};
 ghost use mathlib.Core.Bool.{true, false};
+ghost use Prim.Native.Nat.{_≤_};
+ghost use lib.ListN.{length, drop};
 ghost use Rattle.std.specs.Options.{Cases as BySome};
 ghost use Rattle.input.specs.Day.{reading-count, wrong-input, book-bytes};
 
@@ -28,6 +30,14 @@ pub fn split<'a>(bytes: &'a [u8]) -> Option<Input<'a>>
     }
     Some(Input {
         readings,
-        book: &bytes[end..],
+        book: from(bytes, end),
     })
+}
+
+// The bytes from a place on.
+fn from<'a>(bytes: &'a [u8], start: usize) -> &'a [u8]
+    requires { ⌜ start ≤ length (now bytes) ⌝ }
+    ensures { λ r. ⌜ now r ≡ drop start (now (bytes .entry)) ⌝ }
+{
+    &bytes[start..]
 }

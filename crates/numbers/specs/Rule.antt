@@ -4,7 +4,7 @@ use mathlib.Core.Bool.{Bool, _&&_}
 use lib.IntN.{ℤ, pos, negsuc}
 use lib.Signed.{leZ, _≤ℤ_}
 use Rattle.std.specs.declared.option.Option.{Option}
-use Rattle.std.specs.declared.option.Option.the-variants.{Some, None}
+use Rattle.std.specs.declared.option.Option.the-variants.{Some}
 
 -- The ends of 32 signed bits.
 abbrev pub least32 : ℤ
@@ -16,6 +16,10 @@ most32 = pos 2147483647
 -- z lies between the ends low and high.
 abbrev pub Within : ℤ → ℤ → ℤ → Type 0
 Within low high z = (low ≤ℤ z) × (z ≤ℤ high)
+
+-- The same as a test.
+abbrev pub between : ℤ → ℤ → ℤ → Bool
+between low high z = leZ low z && leZ z high
 
 -- A number rule. Its difference is a function of the two numbers alone.
 pub record Rule : Type 0 where
@@ -32,4 +36,4 @@ pub record Rule : Type 0 where
 
 -- Whether a number lies between a rule's ends.
 unfoldable pub within : Rule → ℤ → Bool
-within R z = leZ (R .low) z && leZ z (R .high)
+within R z = between (R .low) (R .high) z

@@ -1,0 +1,9 @@
+pub mod Base
+pub mod Unique
+pub mod Says
+pub mod Stands
+pub mod Programs
+pub mod Typing
+pub mod Nodes
+pub mod Keeps
+pub mod Accepts

@@ -1,0 +1,11 @@
+pub mod Stores
+pub mod Fits
+pub mod Alike
+pub mod Views
+pub mod Causes
+pub mod Heaps
+pub mod Back
+pub mod Forth
+pub mod Limits
+pub mod Laws
+pub mod Specimens

@@ -1,0 +1,5 @@
+mod Chains
+mod Numbered
+mod Packs
+mod Stores
+mod Trying

@@ -1,0 +1,6 @@
+use mathlib.Core.Path.{refl}
+use Rattle.store.proofs.Numbered.{class-read}
+use Rattle.store.proofs.packed.base.PackedStore.head.Needs as need
+
+pub returns : need.returns
+returns c = record { is = c .item .ensures; class = class-read _ _ _ _ _ (λ x. refl) (c .args .handle) _ (c .item .ensures) }
