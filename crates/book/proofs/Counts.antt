@@ -29,8 +29,9 @@ pub any-some : (t : ℕ → Bool) (n k : ℕ) → k < n → t k ≡ true → any
 any-some t zero k h e = absurd (omega arith)
 any-some t (suc n) k h e =
     elim (cases-eq k n) [
-      inl same ↦ or-right (any-below n t) (t n) (subst (λ j. t j ≡ true) same e)
-    | inr other ↦ or-left (any-below n t) (t n) (any-some t n k (omega arith) e) ]
+      | inl same ↦ or-right (any-below n t) (t n) (subst (λ j. t j ≡ true) same e)
+      | inr other ↦ or-left (any-below n t) (t n) (any-some t n k (omega arith) e)
+    ]
 
 -- a test that none below n passes passes one more
 pub none-more : (t : ℕ → Bool) (n : ℕ) → ((k : ℕ) → k < n → t k ≡ false) → t n ≡ false → (k : ℕ) → k < n + 1 → t k ≡ false
@@ -45,8 +46,9 @@ pub total-mono : (f : ℕ → ℕ) (a b : ℕ) → a ≤ b → total f a ≤ tot
 total-mono f a zero h = let e : a ≡ 0 = omega arith in rw e (omega arith)
 total-mono f a (suc b) h =
     elim (cases-eq a (suc b)) [
-      inl same ↦ rw same (omega arith)
-    | inr other ↦ let l = total-mono f a b (omega arith) in omega arith ]
+      | inl same ↦ rw same (omega arith)
+      | inr other ↦ let l = total-mono f a b (omega arith) in omega arith
+    ]
 
 -- the places of a table ascend, from p on
 abbrev pub ascends : ℕ → List (ℕ × Bool) → Bool
@@ -67,8 +69,9 @@ lowest-same t u (Some p) same h = (same p ∙ h .0, λ q l. same q ∙ h .1 q l)
 -- so the first place whose test holds is the lowest
 pub table-lowest : (t : List (ℕ × Bool)) (p : ℕ) → ascends p t ≡ true → Lowest (at-place t) (first-place t)
 table-lowest [] p h = λ q. refl
-table-lowest ((n, true) ∷ xs) p h =
-    (or-left _ _ (and-from _ _ (eq-eqb n n refl) refl),
-    λ q l. or-from _ _ (and-left _ _ (ne-eqb q n (λ e. omega arith))) (below-all xs (suc n) q (and-parts _ _ h .1) (omega arith)))
+table-lowest ((n, true) ∷ xs) p h = (
+  or-left _ _ (and-from _ _ (eq-eqb n n refl) refl),
+  λ q l. or-from _ _ (and-left _ _ (ne-eqb q n (λ e. omega arith))) (below-all xs (suc n) q (and-parts _ _ h .1) (omega arith)),
+)
 table-lowest ((n, false) ∷ xs) p h =
     lowest-same _ (at-place xs) (first-place xs) (λ q. rw (and-right (eqb q n) false refl)) (table-lowest xs (suc n) (and-parts _ _ h .1))

@@ -20,10 +20,12 @@ lowest-below : (t : ℕ → Bool) (n : ℕ) → ((k : ℕ) → k < n → t k ≡
 lowest-below t zero = inl (λ k l. absurd (omega arith))
 lowest-below t (suc n) =
     elim (lowest-below t n) [
-      inl none ↦ elim (cases-bool (t n)) [
-        inl yes′ ↦ inr (n, (yes′, none))
-      | inr no′ ↦ inl (λ k l. none-more t n none no′ k (omega arith)) ]
-    | inr found ↦ inr found ]
+      | inl none ↦ elim (cases-bool (t n)) [
+        | inl yes′ ↦ inr (n, (yes′, none))
+        | inr no′ ↦ inl (λ k l. none-more t n none no′ k (omega arith))
+      ]
+      | inr found ↦ inr found
+    ]
 
 -- a table has no test from a place on
 abbrev ends-below : ℕ → List (ℕ × Bool) → Bool
@@ -42,15 +44,17 @@ module _ (bs : List ℕ) where
       → Free bs (n + 1) ⊎ ((f : Fault) × First bs f)
   goes n b free nums places past =
       elim (lowest-below (λ k. is-there bs (numbered n k)) b) [
-        inl none ↦ inl (free-next bs n free (λ p. elim (cases-lt p b) [ inl low ↦ none p low | inr high ↦ past p high ]))
-      | inr (p, low) ↦ inr (numbered n p, first-here bs n p free (nums p) (places p) low) ]
+        | inl none ↦ inl (free-next bs n free (λ p. elim (cases-lt p b) [ inl low ↦ none p low | inr high ↦ past p high ]))
+        | inr (p, low) ↦ inr (numbered n p, first-here bs n p free (nums p) (places p) low)
+      ]
 
   -- the seven numbers one after another
   version-next : Free bs 2 ⊎ ((f : Fault) × First bs f)
   version-next =
       elim (cases-bool (wrong-version bs)) [
-        inl wrong ↦ inr (Version, record { there = wrong; none-before = λ g b. elim b [ inl lower ↦ free-start bs g lower | inr (same, earlier) ↦ absurd (omega arith) ] })
-      | inr right ↦ inl (free-next bs 1 (free-start bs) (λ p. right)) ]
+        | inl wrong ↦ inr (Version, record { there = wrong; none-before = λ g b. elim b [ inl lower ↦ free-start bs g lower | inr (same, earlier) ↦ absurd (omega arith) ] })
+        | inr right ↦ inl (free-next bs 1 (free-start bs) (λ p. right))
+      ]
 
   then : {A B C : Type 0} → A ⊎ C → (A → B ⊎ C) → B ⊎ C
   then (inl a) k = k a
@@ -64,19 +68,21 @@ module _ (bs : List ℕ) where
       then (goes 4 (name-count bs + 1) f₄ (λ p. refl) (λ p. refl) (λ k l. cond-false _ _ _ (le-ltb k (name-count bs) (omega arith)) ∙ and-left _ _ (ne-eqb k (name-count bs) (λ e. omega arith)))) (λ f₅.
       then (goes 5 12 f₅ (λ p. refl) (λ p. refl) (λ k l. beyond (totals bs) 12 k refl l)) (λ f₆.
       then (goes 6 (class-count bs + field-count bs + method-count bs) f₆ (λ p. refl) (λ p. refl)
-        (λ k l. cond-false _ _ _ (le-ltb k (class-count bs) (omega arith)) ∙ (cond-false _ _ _ (le-ltb k (class-count bs + field-count bs) (omega arith)) ∙ cond-false _ _ _ (le-ltb k (class-count bs + field-count bs + method-count bs) l)))) (λ f₇.
+      (λ k l. cond-false _ _ _ (le-ltb k (class-count bs) (omega arith)) ∙ (cond-false _ _ _ (le-ltb k (class-count bs + field-count bs) (omega arith)) ∙ cond-false _ _ _ (le-ltb k (class-count bs + field-count bs + method-count bs) l)))) (λ f₇.
       then (goes 7 (node-count bs) f₇ (λ p. refl) (λ p. refl) (λ k l. and-left _ _ (le-ltb k (node-count bs) l))) (λ f₈. inl (free-all bs f₈))))))))
 
 -- two first faults are one: neither comes before the other
 one-first : (bs : List ℕ) (f g : Fault) → First bs f → First bs g → f ≡ g
 one-first bs f g h k =
     elim (cases-order (number f) (number g)) [
-      inl same ↦ elim (cases-order (place f) (place g)) [
-        inl at ↦ is-numbered f ∙ (ap (λ n. numbered n (place f)) same ∙ (ap (λ p. numbered (number g) p) at ∙ sym (is-numbered g)))
-      | inr (inl low) ↦ absurd (both-ways _ (k .none-before f (inr (same, low))) (h .there))
-      | inr (inr high) ↦ absurd (both-ways _ (h .none-before g (inr (sym same, high))) (k .there)) ]
-    | inr (inl low) ↦ absurd (both-ways _ (k .none-before f (inl low)) (h .there))
-    | inr (inr high) ↦ absurd (both-ways _ (h .none-before g (inl high)) (k .there)) ]
+      | inl same ↦ elim (cases-order (place f) (place g)) [
+        | inl at ↦ is-numbered f ∙ (ap (λ n. numbered n (place f)) same ∙ (ap (λ p. numbered (number g) p) at ∙ sym (is-numbered g)))
+        | inr (inl low) ↦ absurd (both-ways _ (k .none-before f (inr (same, low))) (h .there))
+        | inr (inr high) ↦ absurd (both-ways _ (h .none-before g (inr (sym same, high))) (k .there))
+      ]
+      | inr (inl low) ↦ absurd (both-ways _ (k .none-before f (inl low)) (h .there))
+      | inr (inr high) ↦ absurd (both-ways _ (h .none-before g (inl high)) (k .there))
+    ]
 
 pub faults-decide : Faults-decide
 faults-decide bs = record {

@@ -49,8 +49,9 @@ after-none (suc n) (suc k) bs rest e h l = through (cut bs) _ _ rest None (λ p 
 pub name-none : (n k : ℕ) (bs rest : List ℕ) → after-names n bs ≡ Some rest → cut rest ≡ None → n ≤ k → nth-name k bs ≡ None
 name-none n k bs rest e h l =
     elim (cases-eq n k) [
-      inl same ↦ subst (λ j. nth-name j bs ≡ None) same (rw (e, h))
-    | inr other ↦ let gone : after-names k bs ≡ None = after-none n k bs rest e h (omega arith) in rw gone ]
+      | inl same ↦ subst (λ j. nth-name j bs ≡ None) same (rw (e, h))
+      | inr other ↦ let gone : after-names k bs ≡ None = after-none n k bs rest e h (omega arith) in rw gone
+    ]
 
 -- how the walks over names end and go on, for a test of a name with number k
 module _ (bs rest name : List ℕ) (m : ℕ) (here : after-names m bs ≡ Some rest) where
@@ -58,8 +59,9 @@ module _ (bs rest name : List ℕ) (m : ℕ) (here : after-names m bs ≡ Some r
       → false ≡ any-below n (λ k. same-name (nth-name k bs) (Some name))
   stops-none n h none =
       sym (any-none _ n (λ k l. elim (cases-lt k m) [
-        inl low ↦ none k low
-      | inr high ↦ let gone : nth-name k bs ≡ None = name-none m k bs rest here h high in rw gone ]))
+        | inl low ↦ none k low
+        | inr high ↦ let gone : nth-name k bs ≡ None = name-none m k bs rest here h high in rw gone
+      ]))
 
   pub stops-same : (n : ℕ) (x y : List ℕ) → m < n → cut rest ≡ Some (x, y) → same-name (Some x) (Some name) ≡ true
       → true ≡ any-below n (λ k. same-name (nth-name k bs) (Some name))

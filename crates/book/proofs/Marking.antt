@@ -24,8 +24,9 @@ use Rattle.book.proofs.Counts.{total-more}
 pub laid-more : (bs : List ℕ) (strips : List Strip) (s : Strip) (k : ℕ) → Proper bs s → holds-node s k ≡ true → k < length strips → Laid bs strips k → Laid bs (set strips k s) (k + 1)
 laid-more bs strips s k proper here inside laid q d low fits =
     elim (cases-eq q k) [
-      inl same ↦ rw same (getD-set-same strips k s d inside ∙ sym (proper k here))
-    | inr other ↦ getD-set-other strips k q s d other ∙ laid q d (omega arith) (omega (arith, length-set strips k s)) ]
+      | inl same ↦ rw same (getD-set-same strips k s d inside ∙ sym (proper k here))
+      | inr other ↦ getD-set-other strips k q s d other ∙ laid q d (omega arith) (omega (arith, length-set strips k s))
+    ]
 
 -- a node past the notes asks nothing
 pub laid-past : (bs : List ℕ) (strips : List Strip) (k : ℕ) → length strips ≤ k → Laid bs strips k → Laid bs strips (k + 1)
@@ -60,5 +61,6 @@ marked-more bs old new n same marked more k low =
 pub one-use : (u : ℕ) → eqb (min u 255) 1 ≡ eqb u 1
 one-use u =
     elim (cases-eq u 1) [
-      inl one ↦ rw one
-    | inr other ↦ ne-eqb _ _ (λ e. other (omega arith)) ∙ sym (ne-eqb _ _ other) ]
+      | inl one ↦ rw one
+      | inr other ↦ ne-eqb _ _ (λ e. other (omega arith)) ∙ sym (ne-eqb _ _ other)
+    ]

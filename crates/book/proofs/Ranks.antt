@@ -49,8 +49,9 @@ free-start bs f l = absurd (omega (arith, in-range f))
 pub free-next : (bs : List ℕ) (n : ℕ) → Free bs n → ((p : ℕ) → is-there bs (numbered n p) ≡ false) → Free bs (n + 1)
 free-next bs n free none f l =
     elim (cases-eq (number f) n) [
-      inl same ↦ ap (is-there bs) (is-numbered f ∙ ap (λ m. numbered m (place f)) same) ∙ none (place f)
-    | inr other ↦ free f (omega arith) ]
+      | inl same ↦ ap (is-there bs) (is-numbered f ∙ ap (λ m. numbered m (place f)) same) ∙ none (place f)
+      | inr other ↦ free f (omega arith)
+    ]
 
 pub free-all : (bs : List ℕ) → Free bs 8 → Clear bs
 free-all bs free = record { none = λ f. free f (in-range f .1) }
@@ -61,8 +62,10 @@ first-here bs n p free e f low =
     record {
       there = low .0;
       none-before = λ g b. elim b [
-        inl lower ↦ free g (omega arith)
-      | inr (same, earlier) ↦ ap (is-there bs) (is-numbered g ∙ ap (λ m. numbered m (place g)) (same ∙ e)) ∙ low .1 (place g) (omega arith) ] }
+        | inl lower ↦ free g (omega arith)
+        | inr (same, earlier) ↦ ap (is-there bs) (is-numbered g ∙ ap (λ m. numbered m (place g)) (same ∙ e)) ∙ low .1 (place g) (omega arith)
+      ];
+    }
 
 -- the seven searches one after another
 module _ (bs : List ℕ) where

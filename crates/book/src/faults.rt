@@ -6,16 +6,16 @@ ghost use lib.ListN.{length};
 ghost use Rattle.std.specs.declared.option.Option.the-variants.{Some, None};
 ghost use Rattle.book.specs.Counting.{first-place, Lowest};
 ghost use Rattle.book.specs.Faults.{wrong-version, limits, offsets, totals, wrong-name, no-name, no-type, wrong-class, wrong-field, wrong-method, wrong-entry};
-use crate::layout::CLASSES;
 use crate::layout::CLASS_PART;
-use crate::layout::FIELDS;
+use crate::layout::CLASSES;
 use crate::layout::FIELD_PART;
-use crate::layout::METHODS;
+use crate::layout::FIELDS;
 use crate::layout::METHOD_PART;
-use crate::layout::NAMES;
+use crate::layout::METHODS;
 use crate::layout::NAME_PART;
-use crate::layout::NODES;
+use crate::layout::NAMES;
 use crate::layout::NODE_PART;
+use crate::layout::NODES;
 use crate::layout::TOP;
 use crate::layout::VERSION;
 use crate::layout::header_at;
@@ -128,7 +128,8 @@ fn is_field_wrong(bytes: &[u8], j: usize) -> bool
     ensures { λ r. ⌜ r ≡ wrong-field (now (bytes .entry)) j ⌝ }
 {
     let part = usize::from(header_at(bytes, FIELD_PART));
-    is_no_name(bytes, word_at(bytes, part + 4 * j)) || is_no_type(bytes, word_at(bytes, part + 2 + 4 * j))
+    is_no_name(bytes, word_at(bytes, part + 4 * j))
+        || is_no_type(bytes, word_at(bytes, part + 2 + 4 * j))
 }
 
 fn is_method_wrong(bytes: &[u8], m: usize) -> bool

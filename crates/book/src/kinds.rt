@@ -25,25 +25,44 @@ fn literal(b: u16, d: u16) -> i32
 fn of_kind(kind: u16, a: u16, b: u16, d: u16) -> Option<Node>
     ensures { λ r. ⌜ r ≡ nth (kinds a b d) kind ⌝ }
 {
-    Some(match kind {
-        0 => Node::Literal { value: literal(b, d) },
-        1 => Node::Minus { left: a, right: b },
-        2 => Node::Less { left: a, right: b },
-        3 => Node::Equal { left: a, right: b },
-        4 => Node::IsNull { operand: a },
-        5 => Node::This,
-        6 => Node::Parameter,
-        7 => Node::FieldRead { target: a, name: d },
-        8 => Node::Call { target: a, argument: b, name: d },
-        9 => Node::New { class: d },
-        10 => Node::Reading { index: a },
-        11 => Node::FieldWrite { target: a, value: b, name: d },
-        12 => Node::Sequence { first: a, second: b },
-        13 => Node::If { test: a, then: b, otherwise: d },
-        14 => Node::While { test: a, body: b },
-        15 => Node::Skip,
-        _ => return None,
-    })
+    Some(
+        match kind {
+            0 => Node::Literal {
+                value: literal(b, d),
+            },
+            1 => Node::Minus { left: a, right: b },
+            2 => Node::Less { left: a, right: b },
+            3 => Node::Equal { left: a, right: b },
+            4 => Node::IsNull { operand: a },
+            5 => Node::This,
+            6 => Node::Parameter,
+            7 => Node::FieldRead { target: a, name: d },
+            8 => Node::Call {
+                target: a,
+                argument: b,
+                name: d,
+            },
+            9 => Node::New { class: d },
+            10 => Node::Reading { index: a },
+            11 => Node::FieldWrite {
+                target: a,
+                value: b,
+                name: d,
+            },
+            12 => Node::Sequence {
+                first: a,
+                second: b,
+            },
+            13 => Node::If {
+                test: a,
+                then: b,
+                otherwise: d,
+            },
+            14 => Node::While { test: a, body: b },
+            15 => Node::Skip,
+            _ => return None,
+        },
+    )
 }
 
 // The node that stands in the file, if it is of one of the kinds.
@@ -66,36 +85,83 @@ pub(crate) fn is_of_sort(sort: Sort, kind: u16) -> bool
 fn expression(node: u16) -> Option<Part>
     ensures { λ r. ⌜ r ≡ an-expression node ⌝ }
 {
-    Some(Part { node, sort: Sort::Expression })
+    Some(Part {
+        node,
+        sort: Sort::Expression,
+    })
 }
 
 fn command(node: u16) -> Option<Part>
     ensures { λ r. ⌜ r ≡ a-command node ⌝ }
 {
-    Some(Part { node, sort: Sort::Command })
+    Some(Part {
+        node,
+        sort: Sort::Command,
+    })
 }
 
 // The parts of a node.
 pub(crate) fn parts_of(node: Node) -> Parts
     ensures { λ r. ⌜ r ≡ parts node ⌝ }
 {
-    let none = Parts { a: None, b: None, d: None };
+    let none = Parts {
+        a: None,
+        b: None,
+        d: None,
+    };
     match node {
         Node::Literal { .. } | Node::This | Node::Parameter | Node::New { .. } | Node::Skip => none,
         Node::Minus { left, right } | Node::Less { left, right } | Node::Equal { left, right } => {
-            Parts { a: expression(left), b: expression(right), d: None }
+            Parts {
+                a: expression(left),
+                b: expression(right),
+                d: None,
+            }
         }
         Node::IsNull { operand: only }
         | Node::FieldRead { target: only, .. }
-        | Node::Reading { index: only } => Parts { a: expression(only), b: None, d: None },
-        Node::Call { target, argument: other, .. } | Node::FieldWrite { target, value: other, .. } => {
-            Parts { a: expression(target), b: expression(other), d: None }
+        | Node::Reading { index: only } => Parts {
+            a: expression(only),
+            b: None,
+            d: None,
+        },
+        Node::Call {
+            target,
+            argument: other,
+            ..
         }
-        Node::Sequence { first, second } => Parts { a: command(first), b: command(second), d: None },
-        Node::If { test, then, otherwise } => {
-            Parts { a: expression(test), b: command(then), d: command(otherwise) }
+        | Node::FieldWrite {
+            target,
+            value: other,
+            ..
+        } => {
+            Parts {
+                a: expression(target),
+                b: expression(other),
+                d: None,
+            }
         }
-        Node::While { test, body } => Parts { a: expression(test), b: command(body), d: None },
+        Node::Sequence { first, second } => Parts {
+            a: command(first),
+            b: command(second),
+            d: None,
+        },
+        Node::If {
+            test,
+            then,
+            otherwise,
+        } => {
+            Parts {
+                a: expression(test),
+                b: command(then),
+                d: command(otherwise),
+            }
+        }
+        Node::While { test, body } => Parts {
+            a: expression(test),
+            b: command(body),
+            d: None,
+        },
     }
 }
 

@@ -17,16 +17,27 @@ use crate::node::Type;
 
 // The places of the header's numbers.
 pub(crate) const VERSION: usize = 0;
+
 pub(crate) const CLASSES: usize = 1;
+
 pub(crate) const FIELDS: usize = 2;
+
 pub(crate) const METHODS: usize = 3;
+
 pub(crate) const NODES: usize = 4;
+
 pub(crate) const NAMES: usize = 5;
+
 pub(crate) const CLASS_PART: usize = 6;
+
 pub(crate) const FIELD_PART: usize = 7;
+
 pub(crate) const METHOD_PART: usize = 8;
+
 pub(crate) const NODE_PART: usize = 9;
+
 pub(crate) const NAME_PART: usize = 10;
+
 pub(crate) const TOP: usize = 11;
 
 fn byte_at(bytes: &[u8], i: usize) -> u8
@@ -132,7 +143,13 @@ pub(crate) fn class_at(bytes: &[u8], i: usize) -> Class
     let methods = word_at(bytes, part + 4 + 6 * i);
     let first_field = sum_words(bytes, part + 2, 6, i) as u32;
     let first_method = sum_words(bytes, part + 4, 6, i) as u32;
-    Class { name, first_field, fields, first_method, methods }
+    Class {
+        name,
+        first_field,
+        fields,
+        first_method,
+        methods,
+    }
 }
 
 pub(crate) fn field_at(bytes: &[u8], j: usize) -> Field
@@ -155,9 +172,23 @@ pub(crate) fn method_at(bytes: &[u8], m: usize) -> Method
     let parameter = type_of(word_at(bytes, part + 4 + 10 * m));
     let first = nodes_before(bytes, m);
     let nodes = word_at(bytes, part + 6 + 10 * m);
-    let command = Strip { first, nodes, sort: Sort::Command };
+    let command = Strip {
+        first,
+        nodes,
+        sort: Sort::Command,
+    };
     let first = first + usize::from(nodes);
     let nodes = word_at(bytes, part + 8 + 10 * m);
-    let returned = Strip { first, nodes, sort: Sort::Expression };
-    Method { name, result, parameter, command, returned }
+    let returned = Strip {
+        first,
+        nodes,
+        sort: Sort::Expression,
+    };
+    Method {
+        name,
+        result,
+        parameter,
+        command,
+        returned,
+    }
 }

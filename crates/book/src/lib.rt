@@ -117,7 +117,11 @@ impl<'a> ReadBook<'a> {
     {
         let first = layout::nodes_before(self.bytes, usize::from(self.counts().methods));
         let nodes = layout::header_at(self.bytes, layout::TOP);
-        Strip { first, nodes, sort: Sort::Expression }
+        Strip {
+            first,
+            nodes,
+            sort: Sort::Expression,
+        }
     }
 
     // Node `k`, counted through all strips.

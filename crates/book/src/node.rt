@@ -2,21 +2,59 @@
 // counted through the whole node part of the file; a name by its name number, a class by its class number.
 #[derive(Clone, Copy, PartialEq, Eq, Debug)]
 pub enum Node {
-    Literal { value: i32 },
-    Minus { left: u16, right: u16 },
-    Less { left: u16, right: u16 },
-    Equal { left: u16, right: u16 },
-    IsNull { operand: u16 },
+    Literal {
+        value: i32,
+    },
+    Minus {
+        left: u16,
+        right: u16,
+    },
+    Less {
+        left: u16,
+        right: u16,
+    },
+    Equal {
+        left: u16,
+        right: u16,
+    },
+    IsNull {
+        operand: u16,
+    },
     This,
     Parameter,
-    FieldRead { target: u16, name: u16 },
-    Call { target: u16, argument: u16, name: u16 },
-    New { class: u16 },
-    Reading { index: u16 },
-    FieldWrite { target: u16, value: u16, name: u16 },
-    Sequence { first: u16, second: u16 },
-    If { test: u16, then: u16, otherwise: u16 },
-    While { test: u16, body: u16 },
+    FieldRead {
+        target: u16,
+        name: u16,
+    },
+    Call {
+        target: u16,
+        argument: u16,
+        name: u16,
+    },
+    New {
+        class: u16,
+    },
+    Reading {
+        index: u16,
+    },
+    FieldWrite {
+        target: u16,
+        value: u16,
+        name: u16,
+    },
+    Sequence {
+        first: u16,
+        second: u16,
+    },
+    If {
+        test: u16,
+        then: u16,
+        otherwise: u16,
+    },
+    While {
+        test: u16,
+        body: u16,
+    },
     Skip,
 }
 

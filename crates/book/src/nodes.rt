@@ -18,8 +18,8 @@ use crate::kinds::decode;
 use crate::kinds::is_of_sort;
 use crate::kinds::parts_of;
 use crate::layout::CLASSES;
-use crate::layout::METHODS;
 use crate::layout::METHOD_PART;
+use crate::layout::METHODS;
 use crate::layout::NAMES;
 use crate::layout::NODES;
 use crate::layout::TOP;
@@ -54,14 +54,38 @@ fn lay_all(bytes: &[u8], strips: &mut [Strip])
     let mut first = 0;
     for m in 0..usize::from(header_at(bytes, METHODS)) {
         let nodes = word_at(bytes, part + 6 + 10 * m);
-        lay(bytes, strips, Strip { first, nodes, sort: Sort::Command });
+        lay(
+            bytes,
+            strips,
+            Strip {
+                first,
+                nodes,
+                sort: Sort::Command,
+            },
+        );
         first += usize::from(nodes);
         let nodes = word_at(bytes, part + 8 + 10 * m);
-        lay(bytes, strips, Strip { first, nodes, sort: Sort::Expression });
+        lay(
+            bytes,
+            strips,
+            Strip {
+                first,
+                nodes,
+                sort: Sort::Expression,
+            },
+        );
         first += usize::from(nodes);
     }
     let nodes = header_at(bytes, TOP);
-    lay(bytes, strips, Strip { first, nodes, sort: Sort::Expression });
+    lay(
+        bytes,
+        strips,
+        Strip {
+            first,
+            nodes,
+            sort: Sort::Expression,
+        },
+    );
 }
 
 // Whether a part of node `k` lies in the node's strip, before it.
@@ -191,7 +215,11 @@ pub(crate) fn wrong_node(bytes: &[u8]) -> Option<usize>
     ensures { λ r. ⌜ Lowest (wrong-node (now (bytes .entry))) r ⌝ }
 {
     let nodes = usize::from(header_at(bytes, NODES));
-    let mut strips = [Strip { first: 0, nodes: 0, sort: Sort::Expression }; MOST];
+    let mut strips = [Strip {
+        first: 0,
+        nodes: 0,
+        sort: Sort::Expression,
+    }; MOST];
     lay_all(bytes, &mut strips);
     let mut marks = [0; MOST];
     mark_all(bytes, &mut marks, &strips, nodes);

@@ -17,7 +17,6 @@ use Rattle.book.specs.declared.node.«Type».{«Type» as BType}
 use Rattle.book.specs.declared.node.«Type».the-variants.{Int, Boolean, Class}
 use Rattle.cool.specs.Syntax.{Name, find}
 use Rattle.cool.specs.Book.{Book, Formed, Expression-at, Command-at, is-expression, Each, expressions, commands, fields-of, method-of}
-
 use Rattle.cool.specs.Nodes.{Where, at-top, in-method, where-held, _∣_⊩_∶_}
 use Rattle.check.specs.declared.fault.TypeFault.{TypeFault}
 use Rattle.check.specs.declared.fault.TypeFault.the-variants.{Repeated, Part, Member, Argument, Top, Returned}
@@ -128,11 +127,11 @@ module _ (B : Book) (formed : Formed B) (Γ : Where) where
     type-cause-by (FieldRead a f) e is low ih h =
         of-class-err (Holds-at B) k e (t a) _ h (ih .0 e) (λ u x ne. wrong-part is (at-place a u x) (read-target ne))
         (λ c x h′. member-err (Holds-at B) k e (own-field B Γ c f) _ h′
-          (λ none. no-field-read is (at-place a (Class c) x) (subst (λ G. No-field B G c f) (sym here) (not-own B Γ c f none))) (λ u y z. nothing-wrong z))
+        (λ none. no-field-read is (at-place a (Class c) x) (subst (λ G. No-field B G c f) (sym here) (not-own B Γ c f none))) (λ u y z. nothing-wrong z))
     type-cause-by (Call a b m) e is low ih h =
         of-class-err (Holds-at B) k e (t a) _ h (ih .0 e) (λ u x ne. wrong-part is (at-place a u x) (call-target ne))
         (λ c x h′. member-err (Holds-at B) k e (method-of (B .class c) m) _ h′ (λ none. no-method is (at-place a (Class c) x) none)
-          (λ q y h″. of-type-err (Holds-at B) k e (t b) (q .takes) _ h″ (ih .1 .0 e) (λ u w ne. other-argument is (at-place a (Class c) x) y (at-place b u w) ne) (λ z. nothing-wrong z)))
+        (λ q y h″. of-type-err (Holds-at B) k e (t b) (q .takes) _ h″ (ih .1 .0 e) (λ u w ne. other-argument is (at-place a (Class c) x) y (at-place b u w) ne) (λ z. nothing-wrong z)))
     type-cause-by (New c) e is low ih h = nothing-wrong h
     type-cause-by (Reading a) e is low ih h =
         an-int-err (Holds-at B) k e (t a) _ h (ih .0 e) (λ u x ne. wrong-part is (at-place a u x) (reading-index ne)) (λ x z. nothing-wrong z)
@@ -148,9 +147,9 @@ module _ (B : Book) (formed : Formed B) (Γ : Where) where
       com-cause-by (FieldWrite a b f) e is low ih jh h =
           of-class-err (Holds-at B) k e (t a) _ h (ih .0 e) (λ u x ne. wrong-part is (at-place a u x) (write-target ne))
           (λ d x h′. member-err (Holds-at B) k e (own-field B Γ d f) _ h′
-            (λ none. no-field-written is (at-place a (Class d) x) (subst (λ G. No-field B G d f) (sym here) (not-own B Γ d f none)))
-            (λ w y h″. of-type-err (Holds-at B) k e (t b) w _ h″ (ih .1 .0 e)
-              (λ u v ne. other-value is (at-place a (Class d) x) (own-field-ok B Γ d f w y .2) (at-place b u v) ne) (λ z. nothing-wrong z)))
+          (λ none. no-field-written is (at-place a (Class d) x) (subst (λ G. No-field B G d f) (sym here) (not-own B Γ d f none)))
+          (λ w y h″. of-type-err (Holds-at B) k e (t b) w _ h″ (ih .1 .0 e)
+          (λ u v ne. other-value is (at-place a (Class d) x) (own-field-ok B Γ d f w y .2) (at-place b u v) ne) (λ z. nothing-wrong z)))
       com-cause-by (Sequence a b) e is low ih jh h = then-com-err (Holds-at B) e (c a) (c b) h (jh .0 e) (jh .1 .0 e)
       com-cause-by (If a b d) e is low ih jh h =
           a-boolean-err (Holds-at B) k e (t a) _ h (ih .0 e) (λ u x ne. wrong-part is (at-place a u x) (if-test ne))

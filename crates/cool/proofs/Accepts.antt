@@ -2,7 +2,7 @@
 use mathlib.Core.Path.{_≡_, refl, sym, _∙_, ap}
 use mathlib.Core.List.{List, [], _∷_, _++_}
 use mathlib.Core.Bool.{Bool, true, false, cond}
-use mathlib.Core.Logic.{_⊎_, inl, inr, _↔_}
+use mathlib.Core.Logic.{_⊎_, inl, inr}
 use Prim.Native.Nat.{ℕ, zero, suc, _≤_, _<_}
 use native.Mathlib.Omega.{arith}
 use lib.Dec.{eqb}
@@ -20,11 +20,11 @@ use Rattle.cool.specs.Program as P
 use Rattle.cool.specs.Program.{_⊢fields_⇒_, _∣_⊢methods_⇒_, _⊢classes_⇒_, _⇝_∣_, typed}
 use Rattle.cool.specs.Book.{Meth, Part, Book, fields-of, method-of, type-of, Formed}
 use Rattle.cool.specs.Says.{_⊩_▷_, _⊩_▷com_, is-literal, is-minus, is-less, is-equal, is-is-null, is-this, is-parameter, is-field, is-call, is-new, is-reading, is-assign, is-seq, is-if, is-while, is-skip, Field-says, field-says, Method-says, method-says, In-order, nothing, one-more, Classes-say, no-classes, a-class, Says, says, Accepted}
-use Rattle.cool.specs.Nodes.{Where, at-top, in-method, _∣_⊩_∶_, _∣_⊩_∶com, n-literal, n-minus, n-less, n-equal, n-is-null, n-this, n-parameter, n-field, n-call, n-new, n-reading, n-assign, n-seq, n-if, n-while, n-skip, Well}
+use Rattle.cool.specs.Nodes.{Where, in-method, _∣_⊩_∶_, _∣_⊩_∶com, n-literal, n-minus, n-less, n-equal, n-is-null, n-this, n-parameter, n-field, n-call, n-new, n-reading, n-assign, n-seq, n-if, n-while, n-skip, Well}
 use Rattle.cool.specs.Accepts.{Distinct, Names-distinct, Accepts-exactly}
-use Rattle.cool.proofs.Base.{no-some, eqb-self, eqb-eq, none-or, below, find-nth}
+use Rattle.cool.proofs.Base.{no-some, eqb-self, none-or, below, find-nth}
 use Rattle.cool.proofs.Says.{one-program, class-type}
-use Rattle.cool.proofs.Stands.{Fields-are, f-nil, f-cons, fields-snoc, field-to, field-from, Meant, Stands, Agreed, method-part}
+use Rattle.cool.proofs.Stands.{Fields-are, f-nil, fields-snoc, field-to, field-from, Meant, Stands}
 use Rattle.cool.proofs.Programs.{fields-agree, meths, Typed-method, Meths, Class-is, Classes, more-meths, no-meths, more-classes, none-yet, stands, accepted}
 use Rattle.cool.proofs.Typing.{Where-is, is-top, is-in, class-says, well-typed}
 

@@ -18,6 +18,9 @@ T-true false t = absurd t
 pub no-some : {A B : Type 0} {a : A} → None ≡ Some a → B
 no-some e = let z : _≡_ {A = ℕ} 0 1 = cc in absurd (omega arith)
 
+pub some-same : {A : Type 0} {a b : A} → Some a ≡ Some b → a ≡ b
+some-same e = cc
+
 pub unlike : {A : Type 0} → false ≡ true → A
 unlike e = let z : _≡_ {A = ℕ} 0 1 = cc in absurd (omega arith)
 

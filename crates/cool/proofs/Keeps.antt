@@ -2,15 +2,14 @@
 use mathlib.Core.Path.{_≡_, refl, sym, _∙_, ap}
 use mathlib.Core.List.{List}
 use mathlib.Core.Bool.{Bool, true, false}
-use Prim.Native.Nat.{ℕ}
 use lib.IntN.{ℤ}
 use lib.Dec.{eqb}
 use Rattle.std.specs.declared.option.Option.{Option}
-use Rattle.std.specs.declared.option.Option.the-variants.{Some, None}
+use Rattle.std.specs.declared.option.Option.the-variants.{Some}
 use Rattle.numbers.specs.Rule.{Rule}
 use Rattle.store.specs.declared.Value.{Value}
 use Rattle.cool.specs.Syntax.{Name, Expr, Com, CE, _⟨_⟼_⟩}
-use Rattle.cool.specs.Dynamic.{Loc, Record, Object, object, Heap, _∣_∣_⊢_⇓_∣_, _∣_∣_⊢_⇓_, e-literal, e-minus, e-this, e-parameter, e-field, e-call, e-new, e-less, e-equal, e-null, e-object, e-reading, e-assign, e-seq, e-then, e-else, e-stop, e-turn, e-skip}
+use Rattle.cool.specs.Dynamic.{Loc, Record, object, Heap, _∣_∣_⊢_⇓_∣_, _∣_∣_⊢_⇓_, e-literal, e-minus, e-this, e-parameter, e-field, e-call, e-new, e-less, e-equal, e-null, e-object, e-reading, e-assign, e-seq, e-then, e-else, e-stop, e-turn, e-skip}
 use Rattle.cool.proofs.Base.{no-some, eqb-eq}
 
 pub record Kept (h h′ : Heap) : Type 0 where

@@ -7,3 +7,6 @@ pub mod Typing
 pub mod Nodes
 pub mod Keeps
 pub mod Accepts
+pub mod Rows
+pub mod Clear
+pub mod Forming

@@ -1,8 +1,6 @@
 -- Types of nodes: one at most, none for a command; what is typed stands for something.
 use mathlib.Core.Path.{_≡_, refl}
-use Prim.Native.Nat.{ℕ}
 use Rattle.std.specs.declared.option.Option.{Option}
-use Rattle.std.specs.declared.option.Option.the-variants.{Some}
 use Rattle.book.specs.declared.node.Node.{Node}
 use Rattle.book.specs.declared.node.Type.{«Type» as BType}
 use Rattle.cool.specs.Syntax.{Expr, Com}

@@ -3,20 +3,19 @@ use mathlib.Core.Path.{_≡_, refl, sym, _∙_, ap}
 use mathlib.Core.List.{List, [], _∷_, _++_}
 use mathlib.Core.Bool.{Bool, true, false, cond}
 use mathlib.Core.Logic.{_⊎_, inl, inr}
-use Prim.Native.Nat.{ℕ, zero, suc, _≤_, _<_}
+use Prim.Native.Nat.{ℕ, suc, _≤_, _<_}
 use native.Mathlib.Omega.{arith}
 use native.Mathlib.Nat.{eq-or-lt-of-le}
 use lib.Dec.{eqb}
-use Rattle.std.specs.declared.option.Option.{Option}
 use Rattle.std.specs.declared.option.Option.the-variants.{Some, None}
 use Rattle.book.specs.declared.node.Type.{«Type» as BType}
-use Rattle.cool.specs.Syntax.{Name, Ty, Expr, Com, Method, Class, FE, ME, CE, Decls, Field-decl, Method-decl, Class-decl, Program, program, find, _⟨_⟼_⟩, ∅}
+use Rattle.cool.specs.Syntax.{Name, Ty, Expr, Com, Method, Class, FE, ME, CE, Decls, Field-decl, Method-decl, Class-decl, program, find, _⟨_⟼_⟩, ∅}
 use Rattle.cool.specs.Static.{_∣_∣_⊢_∶_, _∣_∣_⊢_∶com}
 use Rattle.cool.specs.Program as P
 use Rattle.cool.specs.Program.{_⊢fields_⇒_, _∣_⊢methods_⇒_, _⊢classes_⇒_, _⇝_∣_, typed}
-use Rattle.cool.specs.Book.{Meth, Part, Book, type-of, Formed}
-use Rattle.cool.specs.Says.{_⊩_▷_, _⊩_▷com_, Field-says, field-says, Method-says, method-says, In-order, nothing, one-more, Classes-say, no-classes, a-class, Says, says, Accepted}
-use Rattle.cool.proofs.Base.{no-some, unlike, eqb-self, eqb-eq, none-or, below, find-other, find-mid}
+use Rattle.cool.specs.Book.{Meth, Part, Book, Formed}
+use Rattle.cool.specs.Says.{Field-says, field-says, Method-says, method-says, In-order, nothing, one-more, Classes-say, no-classes, a-class, Says, says, Accepted}
+use Rattle.cool.proofs.Base.{no-some, eqb-self, eqb-eq, none-or, below, find-other, find-mid}
 use Rattle.cool.proofs.Stands.{Fields-are, f-nil, fields-snoc, Meant, Stands, Agreed}
 
 pub fields-agree : {B : Book} {ce : CE} {fds : Decls Field-decl} {fe : FE} {fs : List (Name × BType)} → ce ⊢fields fds ⇒ fe → In-order (Field-says B) fs fds → Fields-are B fs fe

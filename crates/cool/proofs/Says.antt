@@ -1,7 +1,7 @@
 -- A book clear of the file's faults stands for one program, and only one.
 use mathlib.Core.Path.{_≡_, refl, sym, _∙_, ap}
 use mathlib.Core.List.{List, [], _∷_, _++_}
-use mathlib.Core.Bool.{Bool, true, false}
+use mathlib.Core.Bool.{true, false}
 use Prim.Native.Nat.{ℕ, zero, suc, _≤_, _<_}
 use native.Mathlib.Omega.{arith}
 use Rattle.std.specs.declared.option.Option.{Option}
@@ -11,8 +11,8 @@ use Rattle.book.specs.declared.node.Node.{Node}
 use Rattle.book.specs.declared.node.Node.the-variants.{Literal, Minus, Less, Equal, IsNull, This, Parameter, FieldRead, Call, New, Reading, FieldWrite, Sequence, If, While, Skip}
 use Rattle.book.specs.declared.node.Type.{«Type» as BType}
 use Rattle.book.specs.declared.node.Type.the-variants.{Int, Boolean, Class}
-use Rattle.cool.specs.Syntax.{Name, Ty, class, Expr, Com, Decls, ε, _▸_, Field-decl, private, Method-decl, public, Class-decl, class-decl, Program, program}
-use Rattle.cool.specs.Book.{Meth, Part, Book, type-of, expressions, commands, Each, is-expression, Expression-at, Command-at, Lies, Formed, Classes-distinct, Types-one-to-one}
+use Rattle.cool.specs.Syntax.{Name, Ty, class, Expr, Com, Decls, ε, _▸_, Field-decl, Method-decl, Class-decl, Program, program}
+use Rattle.cool.specs.Book.{Meth, Part, Book, type-of, is-expression, Expression-at, Command-at, Lies, Formed, Classes-distinct, Types-one-to-one}
 use Rattle.cool.specs.Says.{_⊩_▷_, _⊩_▷com_, is-literal, is-minus, is-less, is-equal, is-is-null, is-this, is-parameter, is-field, is-call, is-new, is-reading, is-assign, is-seq, is-if, is-while, is-skip, Field-says, field-says, Method-says, method-says, In-order, nothing, one-more, Classes-say, no-classes, a-class, Says, says, One-program}
 use Rattle.cool.proofs.Base.{no-some, unlike, append-nil, snoc-append, no-snoc, snoc-same}
 

@@ -1,5 +1,5 @@
 -- A book and a class environment, class by class and method by method.
-use mathlib.Core.Path.{_≡_, refl, sym, _∙_, ap}
+use mathlib.Core.Path.{_≡_, refl}
 use mathlib.Core.List.{List, [], _∷_, _++_}
 use mathlib.Core.Bool.{Bool, true, false, cond}
 use Prim.Native.Nat.{ℕ}
@@ -7,7 +7,7 @@ use lib.Dec.{eqb}
 use Rattle.std.specs.declared.option.Option.{Option}
 use Rattle.std.specs.declared.option.Option.the-variants.{Some, None}
 use Rattle.book.specs.declared.node.Type.{«Type» as BType}
-use Rattle.cool.specs.Syntax.{Name, Ty, Expr, Com, Method, Class, FE, CE, find}
+use Rattle.cool.specs.Syntax.{Name, Ty, Expr, Method, Class, FE, CE, find}
 use Rattle.cool.specs.Static.{_∣_∣_⊢_∶_, _∣_∣_⊢_∶com}
 use Rattle.cool.specs.Book.{Meth, Part, Book, method-of, type-of, Formed, Classes-distinct}
 use Rattle.cool.specs.Says.{_⊩_▷_, _⊩_▷com_}

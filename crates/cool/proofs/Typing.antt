@@ -1,6 +1,5 @@
 -- The nodes of an accepted book are well typed, and their types stand for those that the rules give.
 use mathlib.Core.Path.{_≡_, refl, sym, _∙_, ap}
-use mathlib.Core.List.{List, [], _∷_}
 use Prim.Native.Nat.{ℕ}
 use native.Mathlib.Omega.{arith}
 use Rattle.std.specs.declared.option.Option.{Option}
@@ -12,12 +11,12 @@ use Rattle.book.specs.declared.node.Type.the-variants.{Int, Boolean, Class}
 use Rattle.cool.specs.Syntax as S
 use Rattle.cool.specs.Syntax.{Name, Ty, int, boolean, class, Expr, Com, Method, CE, PE, find}
 use Rattle.cool.specs.Static.{_∣_∣_⊢_∶_, _∣_∣_⊢_∶com, t-literal, t-minus, t-this, t-parameter, t-field, t-call, t-new, t-less, t-equal, t-is-null, t-reading, t-assign, t-seq, t-if, t-while, t-skip}
-use Rattle.cool.specs.Book.{Meth, Part, Book, fields-of, method-of, type-of, Formed}
+use Rattle.cool.specs.Book.{Meth, Part, Book, fields-of, method-of, type-of}
 use Rattle.cool.specs.Says.{_⊩_▷_, _⊩_▷com_, is-literal, is-minus, is-less, is-equal, is-is-null, is-this, is-parameter, is-field, is-call, is-new, is-reading, is-assign, is-seq, is-if, is-while, is-skip}
 use Rattle.cool.specs.Nodes.{Where, at-top, in-method, _∣_⊩_∶_, _∣_⊩_∶com, n-literal, n-minus, n-less, n-equal, n-is-null, n-this, n-parameter, n-field, n-call, n-new, n-reading, n-assign, n-seq, n-if, n-while, n-skip, Well}
 use Rattle.cool.proofs.Base.{no-some}
 use Rattle.cool.proofs.Says.{class-type, types-one-to-one}
-use Rattle.cool.proofs.Stands.{Fields-are, field-from, Meant, Stands, Agreed, method-part}
+use Rattle.cool.proofs.Stands.{field-from, Stands, Agreed, method-part}
 
 -- where a strip stands, by class numbers and by names
 pub data Where-is (B : Book) : Where → PE → Option Name → Type 0 where

@@ -1,8 +1,8 @@
 -- A program gives rise to at most one class environment and type.
 use mathlib.Core.Path.{_≡_, refl, sym, _∙_, ap}
 use Rattle.std.specs.declared.option.Option.{Option}
-use Rattle.std.specs.declared.option.Option.the-variants.{Some, None}
-use Rattle.cool.specs.Syntax.{Name, Ty, class, Expr, Method, Class, Decls, Field-decl, Method-decl, Class-decl, Program, FE, ME, CE, PE, find, _⟨_⟼_⟩}
+use Rattle.std.specs.declared.option.Option.the-variants.{None}
+use Rattle.cool.specs.Syntax.{Name, Ty, Expr, Decls, Field-decl, Method-decl, Class-decl, Program, FE, ME, CE, PE, _⟨_⟼_⟩}
 use Rattle.cool.specs.Static.{_∣_∣_⊢_∶_, t-literal, t-minus, t-this, t-parameter, t-field, t-call, t-new, t-less, t-equal, t-is-null, t-reading}
 use Rattle.cool.specs.Program.{_⊢fields_⇒_, no-fields, a-field, _∣_⊢methods_⇒_, no-methods, a-method, _⊢classes_⇒_, no-classes, a-class, _⇝_∣_, typed, Same-type}
 

@@ -60,7 +60,8 @@ reading-at day (pos i) = nth (take 4096 day) i
 reading-at day (negsuc i) = None
 
 -- h, ℘, ℓ ⊢ expr ⇓ v, h′ and h, ℘, ℓ ⊢ com ⇓ h′, for a class environment CE; beside it a number rule and the day's
--- readings. ℘ is the parameter's value, ℓ the location of `this`, both none at the top.
+-- readings. ℘ is the parameter's value, ℓ the location of `this`, both none at the top. Where there is no rule, nothing is
+-- derived: at null, beyond the number rule's ends, without a difference or a reading.
 module _ (ce : CE) (R : Rule) (day : List ℤ) where
   infix 20 _∣_∣_⊢_⇓_∣_
   infix 20 _∣_∣_⊢_⇓_

@@ -3,6 +3,7 @@ pub mod Static
 pub mod Dynamic
 pub mod Program
 pub mod Book
+pub mod View
 pub mod Says
 pub mod Nodes
 pub mod Accepts

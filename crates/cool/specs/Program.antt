@@ -1,8 +1,8 @@
--- COOL: how declarations give rise to environments, and whole programs.
+-- COOL: how declarations give rise to environments, and whole programs. The environment that a rule gives rise to is named,
+-- and an equation says what it is.
 use mathlib.Core.Path.{_≡_}
 use mathlib.Core.List.{List, [], _∷_, _++_}
 use lib.IntN.{ℤ}
-use Rattle.std.specs.declared.option.Option.{Option}
 use Rattle.std.specs.declared.option.Option.the-variants.{Some, None}
 use Rattle.numbers.specs.Rule.{Rule}
 use Rattle.store.specs.declared.Value.{Value}

@@ -1,5 +1,4 @@
 -- COOL: its syntax, and the environments of its typing rules.
-use mathlib.Core.Path.{_≡_}
 use mathlib.Core.List.{List, [], _∷_}
 use mathlib.Core.Bool.{cond}
 use Prim.Native.Nat.{ℕ}

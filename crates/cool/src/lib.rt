@@ -1,8 +1,12 @@
-// The language COOL: its syntax and rules, and which program a rule book stands for. All of it is definitions, in specs/;
+// The language COOL: its syntax and rules, which book a file's bytes are, and which program a book stands for. All of it is definitions, in specs/;
 // the functions below hold the laws that the definitions must meet.
+ghost use mathlib.Core.List.{List};
+ghost use Prim.Native.Nat.{ℕ};
+ghost use Rattle.book.specs.Faults.{Clear};
 ghost use Rattle.cool.specs.Syntax.{Program};
 ghost use Rattle.cool.specs.Program.{Same-type};
 ghost use Rattle.cool.specs.Book.{Book, Formed, Classes-distinct, Types-one-to-one};
+ghost use Rattle.cool.specs.View.{view};
 ghost use Rattle.cool.specs.Says.{One-program};
 ghost use Rattle.cool.specs.Accepts.{Accepts-exactly};
 
@@ -13,7 +17,21 @@ pub fn types_are_unique() -> u8
     0
 }
 
-// A book clear of the file's faults stands for one program, and only one.
+// The book that a file clear of all faults is: it is well formed.
+pub fn clear_files_are_formed() -> u8
+    ensures { λ _. ⌜ ((bs : List ℕ) → Clear bs → Formed (view bs)) ⌝ }
+{
+    0
+}
+
+// A file clear of all faults stands for one program, and only one.
+pub fn clear_files_stand_for_one_program() -> u8
+    ensures { λ _. ⌜ ((bs : List ℕ) → Clear bs → One-program (view bs)) ⌝ }
+{
+    0
+}
+
+// So does every well-formed book, whatever its bytes.
 pub fn books_stand_for_one_program() -> u8
     ensures { λ _. ⌜ ((B : Book) → Formed B → One-program B) ⌝ }
 {

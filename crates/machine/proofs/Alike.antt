@@ -1,12 +1,12 @@
 -- A step keeps states alike, and comes to the same end.
 use mathlib.Core.Path.{_≡_, refl, sym, _∙_, ap}
 use mathlib.Core.List.{List, [], _∷_}
-use mathlib.Core.Bool.{Bool, true, false, cond, _&&_}
-use Prim.Native.Nat.{ℕ, zero, suc, pred, _+_, _-_, _<_}
+use mathlib.Core.Bool.{Bool, true, false, cond}
+use Prim.Native.Nat.{ℕ, zero, suc, _+_, _<_}
 use native.Mathlib.Omega.{arith}
 use native.Mathlib.Numerals.{add-one}
 use lib.IntN.{ℤ}
-use lib.Dec.{eqb, ltb, leb}
+use lib.Dec.{eqb, ltb}
 use lib.ListN.{length, set}
 use Rattle.std.specs.declared.option.Option.{Option}
 use Rattle.std.specs.declared.option.Option.the-variants.{Some, None}
@@ -16,24 +16,20 @@ use Rattle.book.specs.declared.node.Node.{Node}
 use Rattle.book.specs.declared.node.Node.the-variants.{Literal, Minus, Less, Equal, IsNull, This, Parameter, FieldRead, Call, New, Reading, FieldWrite, Sequence, If, While, Skip}
 use Rattle.book.specs.declared.node.Type.{«Type» as BType}
 use Rattle.book.specs.declared.node.Type.the-variants as T
-use Rattle.numbers.specs.Rule.{Rule, within}
 use Rattle.store.specs.declared.Value.{Value}
-use Rattle.store.specs.declared.Value.the-variants.{Int, Boolean, Null, Handle}
-use Rattle.store.specs.Meaning.{Rec, Store, room, added, written, with-cell, nothing}
+use Rattle.store.specs.declared.Value.the-variants.{Int, Boolean}
+use Rattle.store.specs.Meaning.{Rec, Store, room, added, written, with-cell}
 use Rattle.cool.specs.Syntax.{Name}
 use Rattle.cool.specs.Dynamic.{reading-at}
-use Rattle.cool.specs.Book.{Meth, Part, Book, fields-of, method-of}
+use Rattle.cool.specs.Book.{Meth, Part, fields-of, method-of}
 use Rattle.cool.proofs.Base.{no-some, unlike, eqb-self, eqb-eq, eqb-sym}
 use Rattle.machine.specs.declared.state.Around.{Around}
-use Rattle.machine.specs.declared.state.Hand.{Hand}
-use Rattle.machine.specs.declared.state.Hand.the-variants.{Go, Have, Done}
+use Rattle.machine.specs.declared.state.Hand.the-variants.{Go}
 use Rattle.machine.specs.declared.state.Stage.{Stage}
-use Rattle.machine.specs.declared.state.Stage.the-variants.{First, Second, Turn, Third, Fourth}
 use Rattle.machine.specs.declared.state.Row.{Row}
 use Rattle.machine.specs.Fields.{place, first-value, first-values}
-use Rattle.machine.specs.Machine.{row, around, State, state, Outcome, next, makes, ends, finished, misfit, Given, Op₂, op-minus, op-less, op-equal, Op₁, op-null, op-field, op-reading, Frame, two₁, two₂, one₁, call₁, call₂, call₃, call₄, write₁, write₂, sequence₁, if₁, while₁, while₂, no-line, at-first, at-two, frame, or-ends, or-misfit, unless, two-ints, an-int, a-test, null-or, not-null, the-cell, result₂, result₁, put-on, step-go, step-have, step-done, step, Line-with, line-next, line-make, start, Reached, at-start, one-more, node-of}
-use Rattle.machine.specs.Likeness.{Pair, _↔_, Naming, _∋_, here, there, Exact, _⊨_≈_, ≈-int, ≈-boolean, ≈-null, ≈-handle, Lists, nil, cons, Recs, same-class, Both, neither, both, Stores, Arounds, Stages, is-first, is-second, is-turn, is-third, is-fourth, Rows, no-rows, a-row, Hands, both-go, both-have, both-done, States, alike, _≅_, by-naming}
-use Rattle.machine.proofs.Stores.{rec, added-top, added-else}
+use Rattle.machine.specs.Machine.{State, state, Outcome, next, makes, ends, finished, misfit, Given, Op₂, op-minus, op-less, op-equal, Op₁, op-null, op-field, op-reading, Frame, two₁, two₂, one₁, call₁, call₂, call₃, call₄, write₁, write₂, sequence₁, if₁, while₁, while₂, no-line, at-first, at-two, frame, or-ends, or-misfit, unless, two-ints, an-int, a-test, null-or, not-null, the-cell, result₂, result₁, put-on, step-go, step-have, step-done, step, Line-with, line-next, line-make, start, Reached, at-start, one-more, node-of}
+use Rattle.machine.specs.Likeness.{Pair, _↔_, Naming, _∋_, here, there, Exact, _⊨_≈_, ≈-int, ≈-boolean, ≈-null, ≈-handle, Lists, nil, cons, Recs, same-class, Both, neither, both, Stores, Arounds, Stages, is-first, is-second, is-turn, is-third, is-fourth, Rows, no-rows, a-row, both-go, both-have, both-done, States, alike, _≅_, by-naming}
 
 pub data Outcomes (β : Naming) : Outcome → Outcome → Type 0 where
   both-next : {s t : State} → States β s t → Outcomes β (next s) (next t)

@@ -2,12 +2,10 @@
 use mathlib.Core.Path.{_≡_, refl, sym, _∙_, ap}
 use mathlib.Core.List.{List, [], _∷_}
 use mathlib.Core.Bool.{Bool, true, false}
-use Prim.Native.Nat.{ℕ, zero, suc}
+use Prim.Native.Nat.{ℕ}
 use native.Mathlib.Omega.{arith}
 use lib.IntN.{ℤ}
 use lib.Signed.{ltZ}
-use lib.Dec.{ltb}
-use lib.ListN.{length, set}
 use Rattle.std.specs.declared.option.Option.{Option}
 use Rattle.std.specs.declared.option.Option.the-variants.{Some, None}
 use Rattle.std.specs.Finite.{nth}
@@ -17,9 +15,9 @@ use Rattle.book.specs.declared.node.Type.{«Type» as BType}
 use Rattle.numbers.specs.Rule.{Rule, within}
 use Rattle.store.specs.declared.Value.{Value}
 use Rattle.store.specs.declared.Value.the-variants.{Int, Boolean, Null, Handle}
-use Rattle.store.specs.Meaning.{Rec, Store, room, added, written, nothing}
+use Rattle.store.specs.Meaning.{Rec, Store, written}
 use Rattle.cool.specs.Syntax.{Name, Expr, Com, while, Method, Class, CE, find, _⟨_⟼_⟩, ∅}
-use Rattle.cool.specs.Dynamic.{Loc, Record, Object, object, Heap, Default, with-field, equal-ints, reading-at, _∣_∣_⊢_⇓_∣_, _∣_∣_⊢_⇓_, e-literal, e-minus, e-this, e-parameter, e-field, e-call, e-new, e-less, e-equal, e-null, e-object, e-reading, e-assign, e-seq, e-then, e-else, e-stop, e-turn, e-skip}
+use Rattle.cool.specs.Dynamic.{Record, object, Heap, with-field, equal-ints, reading-at, _∣_∣_⊢_⇓_∣_, _∣_∣_⊢_⇓_, e-literal, e-minus, e-this, e-parameter, e-field, e-call, e-new, e-less, e-equal, e-null, e-object, e-reading, e-assign, e-seq, e-then, e-else, e-stop, e-turn, e-skip}
 use Rattle.cool.specs.Book.{Meth, Part, Book, fields-of, method-of, Formed}
 use Rattle.cool.specs.Says.{_⊩_▷_, _⊩_▷com_, is-literal, is-minus, is-less, is-equal, is-is-null, is-this, is-parameter, is-field, is-call, is-new, is-reading, is-assign, is-seq, is-if, is-while, is-skip}
 use Rattle.cool.specs.Nodes.{Where, _∣_⊩_∶_, _∣_⊩_∶com, n-literal, n-minus, n-less, n-equal, n-is-null, n-this, n-parameter, n-field, n-call, n-new, n-reading, n-assign, n-seq, n-if, n-while, n-skip, Well}
@@ -35,11 +33,10 @@ use Rattle.machine.specs.declared.state.Stage.{Stage}
 use Rattle.machine.specs.declared.state.Stage.the-variants.{First, Second, Turn, Third, Fourth}
 use Rattle.machine.specs.declared.state.Row.{Row}
 use Rattle.machine.specs.Fields.{place, first-values, named, heap-of}
-use Rattle.machine.specs.Machine.{row, around, State, state, Outcome, next, makes, ends, finished, misfit, Given, Op₂, op-minus, op-less, op-equal, Op₁, op-null, op-field, op-reading, Frame, two₁, two₂, one₁, call₁, call₂, call₃, call₄, write₁, write₂, sequence₁, if₁, while₁, while₂, no-line, frame, or-ends, or-misfit, unless, two-ints, an-int, a-test, null-or, not-null, the-cell, result₂, result₁, put-on, step-go, step-have, step-done, step, Line-with, line-next, line-make, start, Reached, at-start, one-more}
-use Rattle.machine.specs.Fit.{Fits, fits-int, fits-boolean, fits-null, fits-handle, Records-fit, where-of, a-row, goes, has, is-done, Fitting, fitting}
-use Rattle.machine.proofs.Stores.{rec}
+use Rattle.machine.specs.Machine.{row, around, State, state, Outcome, next, ends, misfit, Given, Op₂, op-minus, op-less, op-equal, Op₁, op-null, op-field, op-reading, Frame, two₁, two₂, one₁, call₁, call₂, call₃, call₄, write₁, write₂, sequence₁, if₁, while₁, while₂, frame, or-ends, or-misfit, unless, two-ints, an-int, a-test, null-or, not-null, the-cell, result₂, result₁, put-on, step-go, step-have, step-done, step, Line-with, line-next, line-make, start, Reached, at-start, one-more}
+use Rattle.machine.specs.Fit.{Fits, fits-int, fits-boolean, fits-null, fits-handle, a-row, has, Fitting, fitting}
 use Rattle.machine.proofs.Heaps.{find-named, write-named, first-named, heap-look, heap-none, heap-added, heap-written}
-use Rattle.machine.proofs.Views.{node₂, node₁, View, view, v-two₁, v-two₂, v-one₁, v-call₁, v-call₂, v-call₃, v-call₄, v-write₁, v-write₂, v-sequence₁, v-if₁, v-while₁, v-while₂, v-none}
+use Rattle.machine.proofs.Views.{node₂, View, view, v-two₁, v-two₂, v-one₁, v-call₁, v-call₂, v-call₃, v-call₄, v-write₁, v-write₂, v-sequence₁, v-if₁, v-while₁, v-while₂, v-none}
 use Rattle.machine.proofs.Fits.{Judged, an-expr, a-com, going, going-judged, judged, reached-fits}
 
 -- an outcome that is a next state, taken apart

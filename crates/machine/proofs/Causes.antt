@@ -1,11 +1,10 @@
 -- An end has its cause, and its node is the node gone to or else the top row's.
-use mathlib.Core.Path.{_≡_, refl, sym, _∙_, ap}
+use mathlib.Core.Path.{_≡_, refl}
 use mathlib.Core.List.{List, [], _∷_}
 use mathlib.Core.Bool.{Bool, true, false}
-use Prim.Native.Nat.{ℕ, zero, suc, _≤_}
+use Prim.Native.Nat.{ℕ, _≤_}
 use native.Mathlib.Omega.{arith}
 use lib.IntN.{ℤ}
-use lib.Dec.{ltb}
 use lib.ListN.{length}
 use Rattle.std.specs.declared.option.Option.{Option}
 use Rattle.std.specs.declared.option.Option.the-variants.{Some, None}
@@ -13,21 +12,20 @@ use Rattle.std.specs.Finite.{nth}
 use Rattle.book.specs.declared.node.Node.{Node}
 use Rattle.book.specs.declared.node.Node.the-variants.{Literal, Minus, Less, Equal, IsNull, This, Parameter, FieldRead, Call, New, Reading, FieldWrite, Sequence, If, While, Skip}
 use Rattle.book.specs.declared.node.Type.{«Type» as BType}
-use Rattle.numbers.specs.Rule.{Rule, within}
+use Rattle.numbers.specs.Rule.{within}
 use Rattle.store.specs.declared.Value.{Value}
 use Rattle.store.specs.declared.Value.the-variants.{Int, Boolean, Null, Handle}
-use Rattle.store.specs.Meaning.{Rec, Store, room}
+use Rattle.store.specs.Meaning.{Store, room}
 use Rattle.cool.specs.Syntax.{Name}
 use Rattle.cool.specs.Dynamic.{reading-at}
-use Rattle.cool.specs.Book.{Meth, Part, Book, fields-of, method-of}
+use Rattle.cool.specs.Book.{Part, fields-of, method-of}
 use Rattle.machine.specs.declared.state.Around.{Around}
-use Rattle.machine.specs.declared.state.Hand.{Hand}
 use Rattle.machine.specs.declared.state.Hand.the-variants.{Go, Have, Done}
 use Rattle.machine.specs.declared.state.Stage.{Stage}
-use Rattle.machine.specs.declared.state.Stage.the-variants.{First, Second, Turn, Third, Fourth}
+use Rattle.machine.specs.declared.state.Stage.the-variants.{First, Second}
 use Rattle.machine.specs.declared.state.Row.{Row}
 use Rattle.machine.specs.Fields.{place}
-use Rattle.machine.specs.Machine.{row, State, state, Outcome, next, makes, ends, finished, misfit, Given, Op₂, op-minus, op-less, op-equal, Op₁, op-null, op-field, op-reading, Frame, frame, or-ends, or-misfit, unless, two-ints, an-int, a-test, null-or, not-null, the-cell, result₂, result₁, put-on, step-go, step-have, step-done, step, node-of}
+use Rattle.machine.specs.Machine.{row, State, state, Outcome, next, makes, ends, misfit, Given, Op₂, op-minus, op-less, op-equal, Op₁, op-null, op-field, op-reading, Frame, or-ends, or-misfit, unless, two-ints, an-int, a-test, null-or, not-null, the-cell, result₂, result₁, put-on, step-go, step-have, step-done, step, node-of}
 use Rattle.machine.specs.Fit.{Goes-first, minus-a, less-a, equal-a, null-a, field-a, call-a, reading-a, write-a, sequence-a, if-a, while-a}
 use Rattle.machine.specs.Causes.{Targets, field-target, call-target, write-target, Cause, null-target, no-reading, literal-beyond, no-difference, reading-beyond, no-room, no-place}
 use Rattle.machine.proofs.Views.{node₂, node₁, View, view, v-two₁, v-two₂, v-one₁, v-call₁, v-call₂, v-call₃, v-call₄, v-write₁, v-write₂, v-sequence₁, v-if₁, v-while₁, v-while₂, v-none}

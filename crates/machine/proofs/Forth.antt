@@ -1,10 +1,9 @@
 -- What is derived, the machine can do with the same handles, unless a limit stops it.
 use mathlib.Core.Path.{_≡_, refl, sym, _∙_, ap}
-use mathlib.Core.List.{List, [], _∷_}
+use mathlib.Core.List.{List, _∷_}
 use mathlib.Core.Bool.{Bool, true, false}
 use mathlib.Core.Logic.{_⊎_, inl, inr}
-use Prim.Native.Nat.{ℕ, zero, suc}
-use lib.IntN.{ℤ}
+use Prim.Native.Nat.{ℕ}
 use lib.Dec.{ltb}
 use lib.ListN.{length, set}
 use Rattle.std.specs.declared.option.Option.{Option}
@@ -12,14 +11,12 @@ use Rattle.std.specs.declared.option.Option.the-variants.{Some, None}
 use Rattle.std.specs.Finite.{nth}
 use Rattle.book.specs.declared.node.Node.{Node}
 use Rattle.book.specs.declared.node.Node.the-variants.{New, While, FieldWrite}
-use Rattle.book.specs.declared.node.Type.{«Type» as BType}
-use Rattle.numbers.specs.Rule.{Rule, within}
 use Rattle.store.specs.declared.Value.{Value}
-use Rattle.store.specs.declared.Value.the-variants.{Int, Boolean, Null, Handle}
-use Rattle.store.specs.Meaning.{Rec, Store, room, added, written, nothing}
-use Rattle.cool.specs.Syntax.{Name, Expr, Com, while, Method, Class, CE, find, _⟨_⟼_⟩, ∅}
-use Rattle.cool.specs.Dynamic.{Loc, Record, Object, object, Heap, Default, with-field, reading-at, _∣_∣_⊢_⇓_∣_, _∣_∣_⊢_⇓_, e-literal, e-minus, e-this, e-parameter, e-field, e-call, e-new, e-less, e-equal, e-null, e-object, e-reading, e-assign, e-seq, e-then, e-else, e-stop, e-turn, e-skip}
-use Rattle.cool.specs.Book.{Meth, Part, Book, fields-of, method-of}
+use Rattle.store.specs.declared.Value.the-variants.{Handle}
+use Rattle.store.specs.Meaning.{Store, room, added, written}
+use Rattle.cool.specs.Syntax.{Name, Expr, Com, while, Method, Class, CE, find, _⟨_⟼_⟩}
+use Rattle.cool.specs.Dynamic.{Loc, Record, object, Heap, Default, with-field, _∣_∣_⊢_⇓_∣_, _∣_∣_⊢_⇓_, e-literal, e-minus, e-this, e-parameter, e-field, e-call, e-new, e-less, e-equal, e-null, e-object, e-reading, e-assign, e-seq, e-then, e-else, e-stop, e-turn, e-skip}
+use Rattle.cool.specs.Book.{Meth, Part, Book, method-of}
 use Rattle.cool.specs.Says.{_⊩_▷_, _⊩_▷com_, is-literal, is-minus, is-less, is-equal, is-is-null, is-this, is-parameter, is-field, is-call, is-new, is-reading, is-assign, is-seq, is-if, is-while, is-skip}
 use Rattle.cool.proofs.Stands.{Stands, Meant, Fields-are}
 use Rattle.cool.proofs.Keeps.{keeps, keeps-com}
@@ -27,10 +24,10 @@ use Rattle.machine.specs.declared.state.Around.{Around}
 use Rattle.machine.specs.declared.state.Hand.{Hand}
 use Rattle.machine.specs.declared.state.Hand.the-variants.{Go, Have, Done}
 use Rattle.machine.specs.declared.state.Stage.{Stage}
-use Rattle.machine.specs.declared.state.Stage.the-variants.{First, Second, Turn, Third, Fourth}
+use Rattle.machine.specs.declared.state.Stage.the-variants.{First, Second, Third, Fourth}
 use Rattle.machine.specs.declared.state.Row.{Row}
 use Rattle.machine.specs.Fields.{place, first-values, named, heap-of}
-use Rattle.machine.specs.Machine.{row, around, State, state, Outcome, next, makes, ends, finished, misfit, Given, frame, or-ends, or-misfit, unless, two-ints, an-int, a-test, null-or, not-null, the-cell, put-on, step-go, step-have, step-done, step, Line-with, line-next, line-make}
+use Rattle.machine.specs.Machine.{row, around, State, state, next, ends, Given, frame, or-ends, or-misfit, unless, two-ints, an-int, a-test, null-or, not-null, the-cell, put-on, step-go, step-have, step-done, step, Line-with, line-next, line-make}
 use Rattle.machine.proofs.Stores.{rec}
 use Rattle.machine.proofs.Heaps.{find-back, write-named, first-named, Known, known-added, known-written, In-store, look-none, look-some, heap-added, heap-written}
 

@@ -3,8 +3,7 @@ use mathlib.Core.Path.{_≡_, refl, sym, _∙_, ap}
 use mathlib.Core.List.{List, [], _∷_}
 use mathlib.Core.Bool.{Bool, true, false, cond}
 use mathlib.Core.Logic.{_⊎_, inl, inr}
-use Prim.Native.Nat.{ℕ, zero, suc}
-use native.Mathlib.Omega.{arith}
+use Prim.Native.Nat.{ℕ, suc}
 use lib.Dec.{eqb}
 use lib.ListN.{set}
 use Rattle.std.specs.declared.option.Option.{Option}
@@ -16,7 +15,7 @@ use Rattle.book.specs.declared.node.Type.the-variants as T
 use Rattle.store.specs.declared.Value.{Value}
 use Rattle.store.specs.Meaning.{Rec, Store, added, written, with-cell}
 use Rattle.cool.specs.Syntax.{Name, Ty, int, boolean, class, FE, find, _⟨_⟼_⟩}
-use Rattle.cool.specs.Dynamic.{Loc, Record, Object, object, Heap, default, Default, with-field}
+use Rattle.cool.specs.Dynamic.{Record, object, default, Default, with-field}
 use Rattle.cool.specs.Book.{Part, Book, type-of}
 use Rattle.cool.proofs.Base.{no-some, eqb-eq, same-function}
 use Rattle.cool.proofs.Says.{class-type}

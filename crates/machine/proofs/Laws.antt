@@ -1,23 +1,17 @@
 -- The laws of the machine.
 use mathlib.Core.Path.{_≡_, refl, sym, _∙_, ap}
-use mathlib.Core.List.{List, [], _∷_}
-use mathlib.Core.Bool.{Bool, true}
+use mathlib.Core.List.{[]}
 use mathlib.Core.Logic.{_⊎_, inl, inr}
-use Prim.Native.Nat.{ℕ, zero, suc, _+_, _≤_, _<_, _^_}
+use Prim.Native.Nat.{ℕ, zero, suc, _+_, _≤_, _<_}
 use native.Mathlib.Omega.{arith}
 use native.Mathlib.Nat.{eq-or-lt-of-le}
-use lib.ListN.{length}
-use Rattle.std.specs.declared.option.Option.{Option}
-use Rattle.std.specs.declared.option.Option.the-variants.{Some, None}
-use Rattle.book.specs.declared.node.Node.{Node}
-use Rattle.book.specs.declared.node.Node.the-variants.{New}
+use Rattle.std.specs.declared.option.Option.the-variants.{None}
 use Rattle.book.specs.declared.node.Type.{«Type» as BType}
 use Rattle.store.specs.declared.Value.{Value}
-use Rattle.store.specs.declared.Value.the-variants.{Handle}
-use Rattle.store.specs.Meaning.{Rec, Store, room, nothing}
-use Rattle.cool.specs.Syntax.{Ty, Expr, CE, ∅}
-use Rattle.cool.specs.Dynamic.{Heap, _∣_∣_⊢_⇓_∣_}
-use Rattle.cool.specs.Book.{Part, Book, type-of, Formed}
+use Rattle.store.specs.Meaning.{Store, nothing}
+use Rattle.cool.specs.Syntax.{Ty, Expr, CE}
+use Rattle.cool.specs.Dynamic.{Heap}
+use Rattle.cool.specs.Book.{Formed}
 use Rattle.cool.specs.Says.{_⊩_▷_, Accepted}
 use Rattle.cool.specs.Nodes.{Well}
 use Rattle.cool.proofs.Base.{no-some}
@@ -25,21 +19,17 @@ use Rattle.cool.proofs.Stands.{Stands, Agreed}
 use Rattle.cool.proofs.Programs.{accepted}
 use Rattle.cool.proofs.Typing.{well-typed}
 use Rattle.machine.specs.declared.state.Around.{Around}
-use Rattle.machine.specs.declared.state.Hand.{Hand}
-use Rattle.machine.specs.declared.state.Hand.the-variants.{Go, Have, Done}
-use Rattle.machine.specs.declared.state.Row.{Row}
+use Rattle.machine.specs.declared.state.Hand.the-variants.{Go, Have}
 use Rattle.machine.specs.Fields.{heap-of}
-use Rattle.machine.specs.Machine.{State, state, store-of, around, Outcome, next, makes, ends, finished, misfit, Given, step, Line-with, Line, line-next, line-make, start, Reached, at-start, one-more}
-use Rattle.machine.specs.Fit.{Fits, Fitting}
+use Rattle.machine.specs.Machine.{State, state, store-of, around, Outcome, next, makes, ends, finished, misfit, Given, step, Line, line-next, line-make, start, Reached, at-start, one-more}
 use Rattle.machine.specs.Likeness.{_≅_}
 use Rattle.machine.specs.Causes.{Cause}
 use Rattle.machine.specs.Runs.{Worked, used-up, was-finished, was-ended, Finished, Ended, Unfinished, One-of}
 use Rattle.machine.specs.Laws.{Stays-fitting, Derived, Finished-is-derived, Comes-to, Derived-is-reached, Runs-alike, One-of-three}
-use Rattle.machine.proofs.Fits.{Fine, fine-next, fine-ends, fine-finished, fine-makes, fine, line-fits, start-fits, reached-fits, no-misfit, Done-with, done-with}
+use Rattle.machine.proofs.Fits.{Fine, fine-next, fine-ends, fine-finished, fine-makes, fine, line-fits, start-fits, reached-fits, no-misfit, done-with}
 use Rattle.machine.proofs.Alike.{sort, sorts, line-both, no-line-both, end-both, line-low, start-alike, reached-alike}
-use Rattle.machine.proofs.Causes.{caused, cause-range}
+use Rattle.machine.proofs.Causes.{caused, cause-range, cause-node}
 use Rattle.machine.proofs.Back.{derived}
-use Rattle.machine.proofs.Heaps.{Known}
 use Rattle.machine.proofs.Forth.{Leads, here, limit, on, sim}
 use Rattle.machine.proofs.Limits.{fresh, reached-limit}
 
@@ -237,7 +227,7 @@ module _ (G : Given) (F : Formed (G .book)) (z : BType) (W : Well (G .book) z) (
   one-of {s = s} (was-ended x f l) =
       let c = caused G s f in
       let j = cause-range G c in
-      inr (inl (record { low = j .0; high = j .1; cause = c }, (λ a. let i = a .end in omega arith), (λ a. let i = a .end in omega arith)))
+      inr (inl (record { low = j .0; high = j .1; cause = c; node = cause-node G c }, (λ a. let i = a .end in omega arith), (λ a. let i = a .end in omega arith)))
 
   -- every allowance can be worked
   abbrev Some-run : ℕ → Type 0

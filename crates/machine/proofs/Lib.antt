@@ -8,4 +8,6 @@ pub mod Back
 pub mod Forth
 pub mod Limits
 pub mod Laws
+pub mod Tide
 pub mod Specimens
+pub mod Table

@@ -2,11 +2,10 @@
 use mathlib.Core.Path.{_≡_, refl, sym, _∙_, ap}
 use mathlib.Core.List.{List, [], _∷_}
 use mathlib.Core.Bool.{Bool, true, false, cond, _&&_}
-use mathlib.Core.Logic.{_⊎_, inl, inr}
 use Prim.Native.Nat.{ℕ, zero, suc, _+_, _≤_, _<_, _^_}
 use native.Mathlib.Omega.{arith}
 use lib.IntN.{ℤ}
-use lib.Dec.{T, eqb, ltb, leb, ltb→lt}
+use lib.Dec.{eqb, ltb, leb, ltb→lt}
 use lib.ListN.{length}
 use Rattle.std.specs.declared.option.Option.{Option}
 use Rattle.std.specs.declared.option.Option.the-variants.{Some, None}
@@ -14,21 +13,21 @@ use Rattle.std.specs.Finite.{nth}
 use Rattle.book.specs.declared.node.Node.{Node}
 use Rattle.book.specs.declared.node.Node.the-variants.{Literal, Minus, Less, Equal, IsNull, This, Parameter, FieldRead, Call, New, Reading, FieldWrite, Sequence, If, While, Skip}
 use Rattle.book.specs.declared.node.Type.{«Type» as BType}
-use Rattle.numbers.specs.Rule.{Rule, within}
+use Rattle.numbers.specs.Rule.{Rule}
 use Rattle.store.specs.declared.Value.{Value}
 use Rattle.store.specs.declared.Value.the-variants.{Int, Boolean, Null, Handle}
-use Rattle.store.specs.Meaning.{Rec, Store, room, added, written, nothing}
+use Rattle.store.specs.Meaning.{Rec, Store, room, added, written}
 use Rattle.cool.specs.Syntax.{Name}
 use Rattle.cool.specs.Dynamic.{reading-at}
-use Rattle.cool.specs.Book.{Meth, Part, Book, fields-of, method-of}
-use Rattle.cool.proofs.Base.{no-some, unlike, eqb-self, eqb-eq, eqb-sym}
+use Rattle.cool.specs.Book.{fields-of, method-of}
+use Rattle.cool.proofs.Base.{unlike, eqb-self, eqb-eq, eqb-sym}
 use Rattle.machine.specs.declared.state.Around.{Around}
 use Rattle.machine.specs.declared.state.Hand.{Hand}
 use Rattle.machine.specs.declared.state.Hand.the-variants.{Go, Have, Done}
 use Rattle.machine.specs.declared.state.Row.{Row}
 use Rattle.machine.specs.Fields.{place}
-use Rattle.machine.specs.Machine.{State, state, store-of, Outcome, next, makes, ends, finished, misfit, Given, Op₂, op-minus, op-less, op-equal, Op₁, op-null, op-field, op-reading, Frame, two₁, two₂, one₁, call₁, call₂, call₃, call₄, write₁, write₂, sequence₁, if₁, while₁, while₂, no-line, frame, or-ends, or-misfit, unless, two-ints, an-int, a-test, null-or, not-null, the-cell, result₂, result₁, put-on, step-go, step-have, step-done, step, Line-with, line-next, line-make, start, Reached, at-start, one-more}
-use Rattle.machine.specs.Likeness.{Pair, _↔_, Naming, _∋_, here, there, Stores, alike, _≅_, by-naming}
+use Rattle.machine.specs.Machine.{State, state, store-of, Outcome, next, makes, ends, finished, misfit, Given, Op₂, op-minus, op-less, op-equal, Op₁, op-null, op-field, op-reading, Frame, two₁, two₂, one₁, call₁, call₂, call₃, call₄, write₁, write₂, sequence₁, if₁, while₁, while₂, no-line, frame, or-ends, or-misfit, unless, two-ints, an-int, a-test, null-or, not-null, the-cell, result₂, result₁, put-on, step-go, step-have, step-done, step, Line-with, line-next, line-make, Reached, at-start, one-more}
+use Rattle.machine.specs.Likeness.{_↔_, Naming, _∋_, here, there, alike, _≅_, by-naming}
 
 -- if it is a next state, its limit of records is r
 record Limited (r : ℕ) (o : Outcome) : Type 0 where

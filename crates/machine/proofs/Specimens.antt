@@ -1,29 +1,27 @@
 -- The specimens, line by line.
-use mathlib.Core.Path.{_≡_, refl, sym, _∙_, ap}
+use mathlib.Core.Path.{_≡_, refl}
 use mathlib.Core.List.{List, [], _∷_}
-use mathlib.Core.Bool.{Bool, true, false, cond, _&&_}
-use Prim.Native.Nat.{ℕ, zero, suc, _≤_, _<_, _^_, _+_}
+use mathlib.Core.Bool.{Bool, true, false, _&&_}
+use Prim.Native.Nat.{ℕ, zero, suc, _≤_}
 use native.Mathlib.Omega.{arith}
 use lib.IntN.{ℤ, pos}
-use lib.Dec.{ltb, leb}
+use lib.Dec.{leb}
 use lib.ListN.{length}
-use Rattle.std.specs.declared.option.Option.{Option}
 use Rattle.std.specs.declared.option.Option.the-variants.{Some, None}
-use Rattle.book.specs.declared.node.Node.{Node}
 use Rattle.book.specs.declared.node.Node.the-variants.{Literal, Minus, New}
-use Rattle.numbers.specs.Rule.{Rule, Within, within}
-use Rattle.store.specs.declared.Value.{Value}
+use Rattle.numbers.specs.Rule.{Rule, within}
 use Rattle.store.specs.declared.Value.the-variants.{Int, Null, Handle}
 use Rattle.store.specs.Meaning.{Store, room, added, written, nothing}
 use Rattle.cool.specs.Book.{Part}
 use Rattle.machine.specs.declared.state.Around.{Around}
-use Rattle.machine.specs.declared.state.Hand.the-variants.{Go, Have, Done}
-use Rattle.machine.specs.declared.state.Stage.the-variants.{First, Second}
+use Rattle.machine.specs.declared.state.Hand.the-variants.{Go, Have}
+use Rattle.machine.specs.declared.state.Stage.the-variants.{Second}
 use Rattle.machine.specs.declared.state.Row.{Row}
-use Rattle.machine.specs.Machine.{row, around, State, state, hand-of, store-of, next, ends, finished, Given, or-ends, or-misfit, unless, two-ints, an-int, a-test, null-or, not-null, the-cell, put-on, step, Line, line-next, line-make, start, Reached, at-start, one-more}
+use Rattle.machine.specs.Machine.{row, around, State, state, hand-of, store-of, ends, finished, Given, or-ends, or-misfit, unless, two-ints, an-int, a-test, null-or, not-null, the-cell, put-on, step, Line, line-next, line-make, start, Reached, at-start, one-more}
 use Rattle.machine.specs.Runs.{Worked, was-finished, was-ended}
 use Rattle.machine.specs.Specimens.{given, minus, set-412, reading-0, poke-0, spin-0, new-tide, Finishes, Ends, Specimens}
 use Rattle.machine.proofs.Fits.{within-ends}
+use Rattle.machine.proofs.Tide.{set-accepted, high-has-no-type, test-has-no-type, this-has-no-type}
 
 unfoldable opened : Type 0
 unfolding or-ends or-misfit unless two-ints an-int a-test null-or not-null the-cell put-on added written
@@ -138,6 +136,10 @@ specimens =
       difference = difference;
       no-difference = no-difference;
       set = set-412-worked;
+      set-accepted = set-accepted;
+      high-has-no-type = high-has-no-type;
+      test-has-no-type = test-has-no-type;
+      this-has-no-type = this-has-no-type;
       reading = reading-0-worked;
       poke = poke-0-worked;
       spin = spin-0-worked;

@@ -1,7 +1,7 @@
 -- The cause of each end, as it stands in the state that the run is left in, with the end's number and node.
 use mathlib.Core.Path.{_≡_}
-use mathlib.Core.List.{List, [], _∷_}
-use mathlib.Core.Bool.{Bool, true, false}
+use mathlib.Core.List.{List, _∷_}
+use mathlib.Core.Bool.{false}
 use Prim.Native.Nat.{ℕ}
 use lib.IntN.{ℤ}
 use lib.Dec.{ltb}
@@ -11,7 +11,6 @@ use Rattle.std.specs.declared.option.Option.the-variants.{Some, None}
 use Rattle.book.specs.declared.node.Node.{Node}
 use Rattle.book.specs.declared.node.Node.the-variants.{Literal, Minus, FieldRead, Call, New, Reading, FieldWrite}
 use Rattle.numbers.specs.Rule.{within}
-use Rattle.store.specs.declared.Value.{Value}
 use Rattle.store.specs.declared.Value.the-variants.{Int, Null}
 use Rattle.store.specs.Meaning.{Store, room}
 use Rattle.cool.specs.Syntax.{Name}

@@ -1,9 +1,8 @@
 -- The laws of the machine, over every number rule, all readings, and any choice of fresh handles.
 use mathlib.Core.Path.{_≡_}
-use mathlib.Core.List.{List, []}
+use mathlib.Core.List.{[]}
 use mathlib.Core.Logic.{_⊎_}
-use Prim.Native.Nat.{ℕ, _≤_, _<_}
-use Rattle.std.specs.declared.option.Option.{Option}
+use Prim.Native.Nat.{ℕ, _<_}
 use Rattle.std.specs.declared.option.Option.the-variants.{Some, None}
 use Rattle.book.specs.declared.node.Type.{«Type» as BType}
 use Rattle.store.specs.declared.Value.{Value}

@@ -6,3 +6,4 @@ pub mod Causes
 pub mod Runs
 pub mod Laws
 pub mod Specimens
+pub mod Table

@@ -16,10 +16,10 @@ use Rattle.book.specs.declared.node.Type.{«Type» as BType}
 use Rattle.numbers.specs.Rule.{Rule, within}
 use Rattle.store.specs.declared.Value.{Value}
 use Rattle.store.specs.declared.Value.the-variants.{Int, Boolean, Null, Handle}
-use Rattle.store.specs.Meaning.{Rec, Store, room, added, written, nothing}
+use Rattle.store.specs.Meaning.{Store, room, added, written, nothing}
 use Rattle.cool.specs.Syntax.{Name}
 use Rattle.cool.specs.Dynamic.{equal-ints, reading-at}
-use Rattle.cool.specs.Book.{Meth, Part, Book, fields-of, method-of}
+use Rattle.cool.specs.Book.{Part, Book, fields-of, method-of}
 use Rattle.machine.specs.declared.state.Around.{Around}
 use Rattle.machine.specs.declared.state.Hand.{Hand}
 use Rattle.machine.specs.declared.state.Hand.the-variants.{Go, Have, Done}
@@ -60,7 +60,8 @@ pub record Given : Type 0 where
   pub day : List ℤ
   pub places : ℕ
 
--- What a row waits to do, by its node's kind and its stage.
+-- What a row waits to do, by its node's kind and its stage: the kinds 1 to 3, 4, 7 and 10, 8, 11, 12, 13 and 14, each
+-- with the parts, names and kept values that its line speaks of.
 pub data Op₂ : Type 0 where
   op-minus : Op₂
   op-less : Op₂
@@ -87,6 +88,7 @@ pub data Frame : Type 0 where
   while₂ : ℕ → ℕ → Frame
   no-line : Frame
 
+-- A row with stage 1 alone; with stages 1 and 2; with all four; and a while's.
 abbrev pub at-first : Stage → Frame → Frame
 at-first First f = f
 at-first (Second v) f = no-line
@@ -115,6 +117,7 @@ at-loop Turn f g = g
 at-loop (Third ε) f g = no-line
 at-loop (Fourth ε) f g = no-line
 
+-- By the node and the stage; where no line applies, no line.
 abbrev pub frame : Option Node → Stage → Frame
 frame None s = no-line
 frame (Some (Literal n)) s = no-line

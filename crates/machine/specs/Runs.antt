@@ -1,6 +1,6 @@
 -- Runs begun and worked, and how they may stand.
 use mathlib.Core.Path.{_≡_}
-use mathlib.Core.List.{List, []}
+use mathlib.Core.List.{[]}
 use mathlib.Core.Logic.{_⊎_}
 use Prim.Native.Nat.{ℕ, suc, _≤_}
 use Rattle.book.specs.declared.node.Type.{«Type» as BType}
@@ -8,7 +8,7 @@ use Rattle.store.specs.declared.Value.{Value}
 use Rattle.store.specs.Meaning.{Store}
 use Rattle.machine.specs.declared.state.Around.{Around}
 use Rattle.machine.specs.declared.state.Hand.the-variants.{Have}
-use Rattle.machine.specs.Machine.{State, state, Given, step, ends, finished, Line, Reached}
+use Rattle.machine.specs.Machine.{State, state, Given, step, ends, finished, Line, Reached, node-of}
 use Rattle.machine.specs.Fit.{Fits}
 use Rattle.machine.specs.Causes.{Cause}
 
@@ -29,11 +29,13 @@ pub record Finished (G : Given) (z : BType) (s : State) (e : ℕ) : Type 0 where
   pub stands : s ≡ state (Have value) around [] store
   pub fits : Fits (G .rule) store value z
 
--- It has ended with a number from 31 to 35 whose cause still holds in the state it was left in.
+-- It has ended with a number from 31 to 35 whose cause still holds in the state it was left in, at the node gone to or
+-- else the top row's.
 pub record Ended (G : Given) (s : State) (e k : ℕ) : Type 0 where
   pub low : 31 ≤ e
   pub high : e ≤ 35
   pub cause : Cause G s e k
+  pub node : k ≡ node-of s
 
 -- It has not ended, and there is a further step, an ending one included.
 pub record Unfinished (G : Given) (s : State) (e : ℕ) : Type 0 where

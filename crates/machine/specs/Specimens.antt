@@ -1,23 +1,22 @@
 -- Worked specimens: what the step rules make of small books.
 use mathlib.Core.Path.{_≡_}
 use mathlib.Core.List.{List, [], _∷_}
-use mathlib.Core.Bool.{Bool, true, false, cond}
+use mathlib.Core.Bool.{true, cond}
 use Prim.Native.Nat.{ℕ, _≤_}
 use lib.IntN.{ℤ, pos}
 use lib.Dec.{leb}
 use lib.Chars.{codes}
-use Rattle.std.specs.declared.option.Option.{Option}
 use Rattle.std.specs.declared.option.Option.the-variants.{Some, None}
 use Rattle.std.specs.Options.{valueOr}
 use Rattle.std.specs.Finite.{nth}
 use Rattle.book.specs.declared.node.Node.{Node}
-use Rattle.book.specs.declared.node.Node.the-variants.{Literal, Minus, This, Parameter, FieldRead, Call, New, Reading, FieldWrite, Skip}
-use Rattle.book.specs.declared.node.Type.{«Type» as BType}
+use Rattle.book.specs.declared.node.Node.the-variants.{Literal, Minus, Less, This, Parameter, FieldRead, Call, New, Reading, FieldWrite, Skip}
 use Rattle.book.specs.declared.node.Type.the-variants as T
 use Rattle.numbers.specs.Rule.{Rule, within}
-use Rattle.store.specs.declared.Value.{Value}
 use Rattle.store.specs.declared.Value.the-variants.{Int, Null, Handle}
-use Rattle.cool.specs.Syntax.{Name}
+use Rattle.cool.specs.Syntax.{Name, Ty, class, Expr, Program, CE}
+use Rattle.cool.specs.Program.{_⇝_∣_}
+use Rattle.cool.specs.Says.{Says, Accepted}
 use Rattle.cool.specs.Book.{Meth, Part, Book}
 use Rattle.machine.specs.declared.state.Hand.the-variants.{Have}
 use Rattle.machine.specs.Machine.{State, hand-of, store-of, Given}
@@ -77,6 +76,16 @@ spin-0 = a-book-with (record { takes = T.Int; gives = T.Int; body = 0; result = 
 abbrev pub new-tide : Book
 new-tide = a-book (New 0 ∷ []) 0
 
+-- `new Tide().high`, `7 - (1 < 2)` and `this`, at the top
+abbrev pub high-at-top : Book
+high-at-top = a-book (New 0 ∷ FieldRead 0 0 ∷ []) 1
+
+abbrev pub minus-test : Book
+minus-test = a-book (Literal (pos 7) ∷ Literal (pos 1) ∷ Literal (pos 2) ∷ Less 1 2 ∷ Minus 0 3 ∷ []) 4
+
+abbrev pub this-at-top : Book
+this-at-top = a-book (This ∷ []) 0
+
 -- Over a store with the limits r and q it finishes after n steps in a state of P; it ends after n steps with e at node k:
 -- whatever allowance it is given, if only that suffices.
 abbrev pub Finishes : Given → ℕ → ℕ → ℕ → (State → Type 0) → Type 0
@@ -84,6 +93,10 @@ Finishes G r q n P = (s : State) × P s × ((b : ℕ) → n ≤ b → Worked G r
 
 abbrev pub Ends : Given → ℕ → ℕ → ℕ → ℕ → ℕ → Type 0
 Ends G r q n e k = (s : State) × ((b : ℕ) → n ≤ b → Worked G r q b s n e k)
+
+-- The program that a book stands for has no type.
+abbrev pub Has-no-type : Book → Type 0
+Has-no-type B = (p : Program) (ce : CE) (u : Ty) → Says B p → p ⇝ ce ∣ u → ⊥
 
 -- The specimens, with the steps that each takes.
 pub record Specimens (minus-steps set-steps reading-steps poke-steps spin-steps new-steps : ℕ) : Type 0 where
@@ -95,6 +108,12 @@ pub record Specimens (minus-steps set-steps reading-steps poke-steps spin-steps 
   pub set : (R : Rule) → within R (pos 412) ≡ true
       → Finishes (given R set-412 256) 256 2048 set-steps
       (λ s. (l : ℕ) × (hand-of s ≡ Have (Handle l)) × (store-of s .look l ≡ Some (record { class = 0; values = Int (pos 412) ∷ Null ∷ [] })) × (store-of s .count ≡ 1))
+  -- it is accepted, with the class Tide for its type
+  pub set-accepted : (ce : CE) × (e : Expr) × Accepted set-412 ce e (class 2)
+  -- a field of another class, a boolean where an int is needed, and `this` at the top have no type
+  pub high-has-no-type : Has-no-type high-at-top
+  pub test-has-no-type : Has-no-type minus-test
+  pub this-has-no-type : Has-no-type this-at-top
   -- no readings: end 32
   pub reading : (R : Rule) → Ends (given R reading-0 256) 256 2048 reading-steps 32 1
   -- next is null: end 31

@@ -4,6 +4,7 @@ ghost use Rattle.cool.specs.Syntax.{Ty, Expr, CE};
 ghost use Rattle.cool.specs.Says.{Accepted};
 ghost use Rattle.machine.specs.Machine.{Given};
 ghost use Rattle.machine.specs.Specimens.{Specimens};
+ghost use Rattle.machine.specs.Table.{Tabled};
 ghost use Rattle.machine.specs.Laws.{Stays-fitting, Finished-is-derived, Derived-is-reached, Runs-alike, One-of-three};
 
 pub mod state;
@@ -47,6 +48,14 @@ pub fn runs_stand_in_one_of_three_ways() -> u8
 // 13, a reading that is not there in 3, a call on null in 12, a row that has no place in 8, a new record in 1.
 pub fn specimens_are_worked() -> u8
     ensures { λ _. ⌜ Specimens 5 13 3 12 8 1 ⌝ }
+{
+    0
+}
+
+// Steps of every kind and stage, and misfits, come out as tabled; the ends are 31 for a null target, 32 for no reading, 33
+// for a number beyond the ends, 34 for no room and 35 for no place.
+pub fn steps_are_as_tabled() -> u8
+    ensures { λ _. ⌜ Tabled 31 32 33 34 35 ⌝ }
 {
     0
 }

@@ -1,5 +1,5 @@
 mod Chains
 mod Numbered
 mod Packs
-mod Stores
+pub mod Stores
 mod Trying

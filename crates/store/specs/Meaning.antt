@@ -1,5 +1,5 @@
 -- What an object store means: records with distinct handles, and two limits.
-use mathlib.Core.Path.{_≡_}
+use mathlib.Core.Path.{_≡_, refl}
 use mathlib.Core.Bool.{Bool, true, false, cond, _&&_}
 use mathlib.Core.List.{List, [], _∷_, map}
 use Prim.Native.Nat.{ℕ, _+_, _≤_, _<_, _^_}
@@ -130,6 +130,10 @@ pub record Puts (m : Means) (h i : ℕ) (v : Value) (done : Bool) (n : Means) : 
 -- What a store with no records and these limits means.
 abbrev pub empty : ℕ → ℕ → Means
 empty r q = record { records = []; most-records = r; most-cells = q }
+
+pub store-empty : (r q : ℕ) → store (empty r q) ≡ nothing r q
+unfolding store
+store-empty r q = refl
 
 -- What opening a store with the limits r and q answers, where s means meant s: an empty store with these limits, or
 -- that a limit is beyond its bound, or, within the bounds, that there was no memory.

@@ -33,7 +33,9 @@ pub struct ChainedStore {
     ghost apart: { Apart (vec-items chains) (vec-items cells) },
     ghost once: { Once (vec-items chains) (vec-items cells) },
     ghost total: { lens (vec-items chains) ≡ vec-len cells },
+    // What the lengths and limits mean.
     ghost counts: { Counts (store (counted (rec-of (vec-items cells)) (vec-items chains) «most_records» «most_cells»)) (vec-len chains) (vec-len cells) «most_records» «most_cells» },
+    // All the memory is there.
     ghost reserved: { («most_records» ≤ vec-cap chains) × («most_cells» ≤ vec-cap cells) },
     ghost few: { (vec-len chains ≤ «most_records») × (vec-len cells ≤ «most_cells») },
     ghost bounds: { («most_records» ≤ 4096) × («most_cells» ≤ 65535) },

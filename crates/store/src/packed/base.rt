@@ -24,7 +24,9 @@ pub struct PackedStore {
     pub(super) most_records: usize,
     pub(super) most_cells: usize,
     ghost contiguous: { packed 0 (vec-items heads) (vec-len row) ≡ true },
+    // What the lengths and limits mean.
     ghost counts: { Counts (store (counted (rec-of (vec-items row)) (vec-items heads) «most_records» «most_cells»)) (vec-len heads) (vec-len row) «most_records» «most_cells» },
+    // All the memory is there.
     ghost reserved: { («most_records» ≤ vec-cap heads) × («most_cells» ≤ vec-cap row) },
     ghost few: { (vec-len heads ≤ «most_records») × (vec-len row ≤ «most_cells») },
     ghost bounds: { («most_records» ≤ 4096) × («most_cells» ≤ 65535) },

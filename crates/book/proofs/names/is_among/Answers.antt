@@ -13,8 +13,10 @@ returns-then-same-bytes c =
     stops-same (c .args .bytes .now) _ (c .args .name .now) (c .loop-m .-m) (c .loop-m .inv .0) (c .args .n) _ _ (omega arith) (c .in-Some .ensures tt) (sym (c .if-same-bytes .ensures tt))
 
 pub loop-m-again : need.loop-m-again
-loop-m-again c = (after-more (c .loop-m .-m) (c .args .bytes .now) _ _ _ (c .loop-m .inv .0) (c .in-Some .ensures tt),
-    goes-on (c .args .bytes .now) _ (c .args .name .now) (c .loop-m .-m) (c .loop-m .inv .0) _ _ (c .in-Some .ensures tt) (sym (c .if-same-bytes .ensures tt)) (c .loop-m .inv .1))
+loop-m-again c = (
+  after-more (c .loop-m .-m) (c .args .bytes .now) _ _ _ (c .loop-m .inv .0) (c .in-Some .ensures tt),
+  goes-on (c .args .bytes .now) _ (c .args .name .now) (c .loop-m .-m) (c .loop-m .inv .0) _ _ (c .in-Some .ensures tt) (sym (c .if-same-bytes .ensures tt)) (c .loop-m .inv .1),
+)
 
 pub returns : need.returns
 returns c = sym (any-none _ (c .args .n) (λ k l. c .loop-m .inv .1 k (omega arith)))
