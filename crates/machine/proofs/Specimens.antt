@@ -4,12 +4,14 @@ use mathlib.Core.List.{List, [], _∷_}
 use mathlib.Core.Bool.{Bool, true, false, _&&_}
 use Prim.Native.Nat.{ℕ, zero, suc, _≤_}
 use native.Mathlib.Omega.{arith}
-use lib.IntN.{ℤ, pos}
+use lib.IntN.{ℤ, pos, negsuc}
 use lib.Dec.{leb}
 use lib.ListN.{length}
 use Rattle.std.specs.declared.option.Option.the-variants.{Some, None}
 use Rattle.book.specs.declared.node.Node.the-variants.{Literal, Minus, New}
-use Rattle.numbers.specs.Rule.{Rule, within}
+use Rattle.std.specs.shelf.Signed.{wrapped}
+use Rattle.numbers.specs.Rule.{Rule, within, between, least32, most32}
+use Rattle.numbers.specs.Rules.{strict, java, clock}
 use Rattle.store.specs.declared.Value.the-variants.{Int, Null, Handle}
 use Rattle.store.specs.Meaning.{Store, room, added, written, nothing}
 use Rattle.cool.specs.Book.{Part}
@@ -130,11 +132,23 @@ no-cell false = refl
 enough : (R : Rule) → Finishes (given R new-tide 256) 1 2 1 (λ s. (l : ℕ) × (hand-of s ≡ Have (Handle l)))
 enough R = (_, (0, refl), finishes (one-more (at-start refl) (line-make 0 refl refl refl (omega arith) refl)) refl)
 
+wraps : java .difference (pos 2147483647) (negsuc 0) ≡ Some (negsuc 2147483647)
+unfolding wrapped
+wraps = refl
+
+in-strict : (n : ℤ) → between least32 most32 n ≡ true → within strict n ≡ true
+unfolding within
+in-strict n e = e
+
 pub specimens : Specimens 5 13 3 12 8 1
 specimens =
     record {
       difference = difference;
       no-difference = no-difference;
+      seven-minus-two = difference strict (pos 7) (pos 2) (pos 5) refl;
+      does-not-fit = no-difference strict (pos 2147483647) (negsuc 0) (in-strict (pos 2147483647) refl) (in-strict (negsuc 0) refl) refl;
+      wraps-round = difference java (pos 2147483647) (negsuc 0) (negsuc 2147483647) wraps;
+      before-midnight = difference clock (pos 0) (pos 1) (pos 1439) refl;
       set = set-412-worked;
       set-accepted = set-accepted;
       high-has-no-type = high-has-no-type;

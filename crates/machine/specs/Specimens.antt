@@ -3,7 +3,7 @@ use mathlib.Core.Path.{_≡_}
 use mathlib.Core.List.{List, [], _∷_}
 use mathlib.Core.Bool.{true, cond}
 use Prim.Native.Nat.{ℕ, _≤_}
-use lib.IntN.{ℤ, pos}
+use lib.IntN.{ℤ, pos, negsuc}
 use lib.Dec.{leb}
 use lib.Chars.{codes}
 use Rattle.std.specs.declared.option.Option.the-variants.{Some, None}
@@ -13,6 +13,7 @@ use Rattle.book.specs.declared.node.Node.{Node}
 use Rattle.book.specs.declared.node.Node.the-variants.{Literal, Minus, Less, This, Parameter, FieldRead, Call, New, Reading, FieldWrite, Skip}
 use Rattle.book.specs.declared.node.Type.the-variants as T
 use Rattle.numbers.specs.Rule.{Rule, within}
+use Rattle.numbers.specs.Rules.{strict, java, clock}
 use Rattle.store.specs.declared.Value.the-variants.{Int, Null, Handle}
 use Rattle.cool.specs.Syntax.{Name, Ty, class, Expr, Program, CE}
 use Rattle.cool.specs.Program.{_⇝_∣_}
@@ -100,10 +101,15 @@ Has-no-type B = (p : Program) (ce : CE) (u : Ty) → Says B p → p ⇝ ce ∣ u
 
 -- The specimens, with the steps that each takes.
 pub record Specimens (minus-steps set-steps reading-steps poke-steps spin-steps new-steps : ℕ) : Type 0 where
-  -- the difference of two literals: 7 - 2 is 5, 0 - 1 is 1439 on a clock, 2147483647 - -1 wraps round
+  -- the difference of two literals
   pub difference : (R : Rule) (m n d : ℤ) → R .difference m n ≡ Some d → Finishes (given R (minus m n) 256) 256 2048 minus-steps (λ s. hand-of s ≡ Have (Int d))
   -- end 33 where there is none
   pub no-difference : (R : Rule) (m n : ℤ) → within R m ≡ true → within R n ≡ true → R .difference m n ≡ None → Ends (given R (minus m n) 256) 256 2048 minus-steps 33 2
+  -- 7 - 2; 2147483647 - -1, which does not fit under Strict and wraps round under Java; 0 - 1 on Clock
+  pub seven-minus-two : Finishes (given strict (minus (pos 7) (pos 2)) 256) 256 2048 minus-steps (λ s. hand-of s ≡ Have (Int (pos 5)))
+  pub does-not-fit : Ends (given strict (minus (pos 2147483647) (negsuc 0)) 256) 256 2048 minus-steps 33 2
+  pub wraps-round : Finishes (given java (minus (pos 2147483647) (negsuc 0)) 256) 256 2048 minus-steps (λ s. hand-of s ≡ Have (Int (negsuc 2147483647)))
+  pub before-midnight : Finishes (given clock (minus (pos 0) (pos 1)) 256) 256 2048 minus-steps (λ s. hand-of s ≡ Have (Int (pos 1439)))
   -- one Tide, with high=412 and next=null
   pub set : (R : Rule) → within R (pos 412) ≡ true
       → Finishes (given R set-412 256) 256 2048 set-steps
