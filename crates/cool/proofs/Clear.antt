@@ -1,32 +1,30 @@
 -- What a file clear of all faults has.
 use mathlib.Core.Path.{_≡_, refl, sym, ap, subst, _∙_}
-use mathlib.Core.List.{List, [], _∷_, map}
-use mathlib.Core.Bool.{Bool, true, false, cond, _&&_, _||_}
+use mathlib.Core.List.{List, map}
+use mathlib.Core.Bool.{Bool, true, false, cond, _&&_}
 use mathlib.Core.Logic.{inl, inr}
-use Prim.Native.Nat.{ℕ, zero, suc, _+_, _-_, _<_, _≤_}
+use Prim.Native.Nat.{ℕ, _+_, _-_, _<_, _≤_}
 use native.Mathlib.Omega.{arith}
-use lib.Dec.{eqb, ltb, leb}
-use Rattle.std.proofs.shelf.Tests.{cases-lt, lt-ltb, le-ltb, ltb-true, eqb-true, eqb-false, leb-true, le-leb, eq-eqb, not-false, and-parts, and-from, or-parts, cond-true, cond-false}
+use lib.Dec.{eqb, ltb}
+use Rattle.std.proofs.shelf.Tests.{cases-lt, lt-ltb, le-ltb, eqb-true, eqb-false, leb-true, le-leb, eq-eqb, not-false, and-parts, and-from, or-parts, cond-true, cond-false}
 use Rattle.std.specs.declared.option.Option.{Option}
 use Rattle.std.specs.declared.option.Option.the-variants.{Some, None}
 use Rattle.std.specs.Finite.{nth}
-use Rattle.book.specs.declared.node.Node.the-variants.{Literal, Minus, Less, Equal, IsNull, This, Parameter, FieldRead, Call, New, Reading, FieldWrite, Sequence, If, While, Skip}
 use Rattle.book.specs.declared.fault.Fault.the-variants.{Limit, Total, Entry, Node}
-use Rattle.book.specs.declared.node.Type.{«Type» as BType}
-use Rattle.book.specs.declared.node.Raw.{Raw}
-use Rattle.book.specs.declared.node.Node.{Node as ANode}
-use Rattle.book.specs.Counting.{total}
-use Rattle.book.specs.Layout.{class-count, field-count, method-count, node-count, name-count, top-count, class-fields, class-methods, field-type, method-result, method-parameter, command-nodes, returned-nodes, method-nodes, raw-node, typed}
-use Rattle.book.specs.Kinds.{decoded, kinds, of-sort, parts, numbers-right}
-use Rattle.book.specs.Strips.{strip-of, holds-node, is-root, node-at}
-use Rattle.book.specs.Noted.{Proper}
 use Rattle.book.specs.declared.entry.Strip.{Strip}
 use Rattle.book.specs.declared.node.Sort.{Sort}
 use Rattle.book.specs.declared.node.Sort.the-variants.{Expression, Command}
+use Rattle.book.specs.declared.node.Raw.{Raw}
+use Rattle.book.specs.declared.node.Node.{Node as ANode}
+use Rattle.book.specs.Counting.{total}
+use Rattle.book.specs.Layout.{class-count, field-count, method-count, node-count, name-count, top-count, class-fields, class-methods, field-type, method-result, method-parameter, command-nodes, returned-nodes, method-nodes, raw-node}
+use Rattle.book.specs.Kinds.{decoded, kinds, of-sort, parts, numbers-right}
+use Rattle.book.specs.Strips.{holds-node, is-root, node-at}
+use Rattle.book.specs.Noted.{Proper}
 use Rattle.book.specs.Faults.{Clear, wrong-field, wrong-method, no-type, shape-right, parts-right, uses, use-right}
-use Rattle.cool.specs.Book.{Book, is-expression, Type-there}
-use Rattle.cool.specs.View.{run, root-of, part, view}
-use Rattle.cool.proofs.Base.{no-some, some-same, unlike}
+use Rattle.cool.specs.Book.{is-expression}
+use Rattle.cool.specs.View.{run, root-of}
+use Rattle.cool.proofs.Base.{no-some, unlike}
 use Rattle.cool.proofs.Rows.{nth-map, nth-run}
 
 some : (n : ℕ) → eqb n 0 ≡ false → 0 < n
@@ -54,10 +52,9 @@ sort-right : (s : Sort) (k : ℕ) (n : ANode) → is-expression n ≡ ltb k 11 �
 sort-right Expression k n e h = e ∙ h
 sort-right Command k n e h = e ∙ le-ltb k 11 (leb-true 11 k (and-parts _ _ h .0))
 
-shaped : (bs : List ℕ) (k : ℕ) (o : Option ANode) → shape-right bs k o ≡ true
-    → (n : ANode) × (o ≡ Some n) × (numbers-right (class-count bs) (name-count bs) (raw-node bs k) n ≡ true) × (parts-right bs k (parts n) ≡ true)
+shaped : (bs : List ℕ) (k : ℕ) (o : Option ANode) → shape-right bs k o ≡ true → (n : ANode) × (o ≡ Some n)
 shaped bs k None h = unlike h
-shaped bs k (Some n) h = (n, refl, and-parts _ _ h .0, and-parts _ _ h .1)
+shaped bs k (Some n) h = (n, refl)
 
 -- a method has its types, and nodes in both strips
 pub record Method-right (bs : List ℕ) (m : ℕ) : Type 0 where
@@ -85,17 +82,19 @@ module _ (bs : List ℕ) (clear : Clear bs) where
   field-right j h =
       let i = class-count bs + j in
       let at : i - class-count bs ≡ j = omega arith in
-      let falls = cond-false _ _ _ (le-ltb i (class-count bs) (omega arith)) ∙ cond-true _ _ _ (lt-ltb i (class-count bs + field-count bs) (omega arith)) in
+      let no-class = le-ltb i (class-count bs) (omega arith) in
+      let a-field = lt-ltb i (class-count bs + field-count bs) (omega arith) in
+      let falls = cond-false _ _ _ no-class ∙ cond-true _ _ _ a-field in
       or-parts _ _ (subst (λ i. wrong-field bs i ≡ false) at (sym falls ∙ clear .none (Entry i))) .1
 
   pub method-right : (m : ℕ) → m < method-count bs → Method-right bs m
   method-right m h =
       let i = class-count bs + field-count bs + m in
       let at : i - (class-count bs + field-count bs) ≡ m = omega arith in
-      let falls =
-      cond-false _ _ _ (le-ltb i (class-count bs) (omega arith))
-      ∙ (cond-false _ _ _ (le-ltb i (class-count bs + field-count bs) (omega arith))
-      ∙ cond-true _ _ _ (lt-ltb i (class-count bs + field-count bs + method-count bs) (omega arith))) in
+      let no-class = le-ltb i (class-count bs) (omega arith) in
+      let no-field = le-ltb i (class-count bs + field-count bs) (omega arith) in
+      let a-method = lt-ltb i (class-count bs + field-count bs + method-count bs) (omega arith) in
+      let falls = cond-false _ _ _ no-class ∙ (cond-false _ _ _ no-field ∙ cond-true _ _ _ a-method) in
       let r = or-parts _ _ (or-parts _ _ (subst (λ i. wrong-method bs i ≡ false) at (sym falls ∙ clear .none (Entry i))) .1) in
       let p = or-parts _ _ (r .1) in
       let s = or-parts _ _ (p .1) in
@@ -105,28 +104,23 @@ module _ (bs : List ℕ) (clear : Clear bs) where
   pub node-right : (k : ℕ) → k < node-count bs → (shape-right bs k (decoded (raw-node bs k)) ≡ true) × (use-right bs k ≡ true)
   node-right k h = and-parts _ _ (not-false _ (rest _ _ (lt-ltb k (node-count bs) h) (clear .none (Node k))))
 
-  pub is-there : (k : ℕ) → k < node-count bs → (n : ANode) × (node-at bs k ≡ Some n) × (decoded (raw-node bs k) ≡ Some n)
-  is-there k h =
-      let s = shaped bs k (decoded (raw-node bs k)) (node-right k h .0) in
-      (s .0, cond-true _ _ _ (lt-ltb k (node-count bs) h) ∙ s .1, s .1)
+  pub stands : (k : ℕ) → k < node-count bs → node-at bs k ≡ decoded (raw-node bs k)
+  stands k h = cond-true _ _ _ (lt-ltb k (node-count bs) h)
 
   -- what stands at a node is right
   pub stands-right : (k : ℕ) (n : ANode) → node-at bs k ≡ Some n
       → (k < node-count bs) × (numbers-right (class-count bs) (name-count bs) (raw-node bs k) n ≡ true) × (parts-right bs k (parts n) ≡ true)
   stands-right k n e =
       elim (cases-lt k (node-count bs)) [
-        | inl l ↦
-            let s = shaped bs k (decoded (raw-node bs k)) (node-right k l .0) in
-            let same : s .0 ≡ n = some-same (sym (s .1) ∙ (sym (cond-true _ _ _ (lt-ltb k (node-count bs) l)) ∙ e)) in
-            (l, subst (λ n. numbers-right (class-count bs) (name-count bs) (raw-node bs k) n ≡ true) same (s .2), subst (λ n. parts-right bs k (parts n) ≡ true) same (s .3))
+        | inl l ↦ let r = and-parts _ _ (subst (λ o. shape-right bs k o ≡ true) (sym (stands k l) ∙ e) (node-right k l .0)) in (l, r .0, r .1)
         | inr l ↦ no-some (sym (cond-false _ _ _ (le-ltb k (node-count bs) l)) ∙ e)
       ]
 
-  -- a node of a kind of a sort
+  -- a node whose kind is of a sort
   pub sort-there : (s : Sort) (k : ℕ) → k < node-count bs → of-sort s (raw-node bs k .kind) ≡ true → (n : ANode) × (node-at bs k ≡ Some n) × Of-sort s n
   sort-there s k h e =
-      let t = is-there k h in
-      (t .0, t .1, sort-right s (raw-node bs k .kind) (t .0) (sort-by-kind (raw-node bs k) (t .0) (t .2)) e)
+      let (n, is) = shaped bs k (decoded (raw-node bs k)) (node-right k h .0) in
+      (n, stands k h ∙ is, sort-right s (raw-node bs k .kind) n (sort-by-kind (raw-node bs k) n is) e)
 
   -- the root of a strip
   pub root-there : (s : Strip) → 0 < s .nodes → s .first + s .nodes ≤ node-count bs → Proper bs s → (n : ANode) × (node-at bs (root-of s) ≡ Some n) × Of-sort (s .sort) n

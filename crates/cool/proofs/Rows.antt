@@ -1,7 +1,7 @@
--- Entries in a row, and who owns one.
+-- Runs of entries, and who owns what is numbered through.
 use mathlib.Core.Path.{_≡_, refl, sym, ap, subst, _∙_}
 use mathlib.Core.List.{List, [], _∷_, map}
-use mathlib.Core.Bool.{Bool, true, false, cond, _&&_}
+use mathlib.Core.Bool.{true}
 use mathlib.Core.Logic.{inl, inr}
 use Prim.Native.Nat.{ℕ, zero, suc, _+_, _<_, _≤_}
 use native.Mathlib.Omega.{arith}
@@ -9,8 +9,8 @@ use lib.Dec.{ltb, leb}
 use Rattle.std.proofs.shelf.Tests.{cases-eq, cases-lt, lt-ltb, le-ltb, le-leb, lt-leb, ltb-true, leb-true, and-parts, and-from, and-left, and-right, cond-true, cond-false}
 use Rattle.std.specs.declared.option.Option.the-variants.{Some, None}
 use Rattle.std.specs.Finite.{nth}
-use Rattle.book.specs.Counting.{total}
 use Rattle.book.specs.declared.entry.Strip.{Strip}
+use Rattle.book.specs.Counting.{total}
 use Rattle.book.specs.Layout.{method-count, method-nodes, command-nodes}
 use Rattle.book.specs.Strips.{command-strip, returned-strip, top-strip, holds-node, strip-of}
 use Rattle.book.proofs.Counts.{total-mono}
@@ -33,6 +33,7 @@ nth-run f j (suc n) (suc i) a e =
     (omega arith, r .1 ∙ ap f z)
 
 module _ (f : ℕ → ℕ) where
+  -- the owner, none past the last thing, and some before
   pub owned : (i n k : ℕ) → i < n → total f i ≤ k → k < total f i + f i → owner f n k ≡ Some i
   owned i zero k h low high = absurd (omega arith)
   owned i (suc n) k h low high =

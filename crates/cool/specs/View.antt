@@ -24,11 +24,11 @@ run entry j (suc n) = entry j ∷ run entry (j + 1) n
 abbrev pub root-of : Strip → ℕ
 root-of s = s .first + s .nodes - 1
 
--- Field j: name and type.
+-- Field j: its name and its type.
 abbrev pub field : List ℕ → ℕ → Name × BType
 field bs j = (field-name bs j, typed (field-type bs j))
 
--- Method m, and with its name.
+-- Method m.
 abbrev pub method : List ℕ → ℕ → Meth
 method bs m = record {
   takes = typed (method-parameter bs m);
@@ -37,10 +37,11 @@ method bs m = record {
   result = root-of (returned-strip bs m);
 }
 
+-- Method m with its name.
 abbrev pub named-method : List ℕ → ℕ → Name × Meth
 named-method bs m = (method-name bs m, method bs m)
 
--- Class c: class 0's fields and methods come first in their parts, then class 1's.
+-- Class c. Class 0's fields and methods come first in their parts, then class 1's.
 abbrev pub part : List ℕ → ℕ → Part
 part bs c = record {
   called = class-name bs c;
@@ -48,16 +49,18 @@ part bs c = record {
   methods = run (named-method bs) (total (class-methods bs) c) (class-methods bs c);
 }
 
--- Things are numbered through, f 0 of them owned by number 0, then f 1 by number 1, and so on: the owner of thing k, below n.
+-- Owners 0 to n - 1 have f 0, f 1, .. things, numbered through in that order: the owner of thing k.
 abbrev pub owner : (ℕ → ℕ) → ℕ → ℕ → Option ℕ
 owner f zero k = None
 owner f (suc n) k = cond (leb (total f n) k && ltb k (total f n + f n)) (Some n) (owner f n k)
 
--- The method that has node k in its command or its returned expression, with the class that has the method.
+-- Method m, with the class that has it.
+abbrev pub with-class : List ℕ → ℕ → Option (ℕ × Meth)
+with-class bs m = mapped (λ c. (c, method bs m)) (owner (class-methods bs) (class-count bs) m)
+
+-- The method that has node k in its command or its returned expression, with its class; none where the top-level expression has it.
 abbrev pub holding : List ℕ → ℕ → Option (ℕ × Meth)
-holding bs k =
-    and-then (owner (method-nodes bs) (method-count bs) k) (λ m.
-    mapped (λ c. (c, method bs m)) (owner (class-methods bs) (class-count bs) m))
+holding bs k = and-then (owner (method-nodes bs) (method-count bs) k) (with-class bs)
 
 -- The book.
 abbrev pub view : List ℕ → Book
