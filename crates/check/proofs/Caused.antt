@@ -44,7 +44,6 @@ apart (Class c) (Class d) h e = let f : c ≡ d = cc in absurd (eqb-false c d h 
 module _ {A : Type 0} (P : TypeFault → Type 0) (k : ℕ) (e : TypeFault) where
   an-int-err : (x : Result BType TypeFault) (r : Result A TypeFault) → an-int k x r ≡ Err e
       → (x ≡ Err e → P e) → ((t : BType) → x ≡ Ok t → (t ≡ Int → ⊥) → P (Part k)) → (x ≡ Ok Int → r ≡ Err e → P e) → P e
-  unfolding an-int
   an-int-err (Err f) r h p q s = let same′ : f ≡ e = cc in p (ap Err same′)
   an-int-err (Ok Int) r h p q s = s refl h
   an-int-err (Ok Boolean) r h p q s = let same′ : Part k ≡ e = cc in subst P same′ (q Boolean refl (λ z. let y : _≡_ {A = ℕ} 0 1 = cc in absurd (omega arith)))
@@ -52,7 +51,6 @@ module _ {A : Type 0} (P : TypeFault → Type 0) (k : ℕ) (e : TypeFault) where
 
   a-boolean-err : (x : Result BType TypeFault) (r : Result A TypeFault) → a-boolean k x r ≡ Err e
       → (x ≡ Err e → P e) → ((t : BType) → x ≡ Ok t → (t ≡ Boolean → ⊥) → P (Part k)) → (x ≡ Ok Boolean → r ≡ Err e → P e) → P e
-  unfolding a-boolean
   a-boolean-err (Err f) r h p q s = let same′ : f ≡ e = cc in p (ap Err same′)
   a-boolean-err (Ok Boolean) r h p q s = s refl h
   a-boolean-err (Ok Int) r h p q s = let same′ : Part k ≡ e = cc in subst P same′ (q Int refl (λ z. let y : _≡_ {A = ℕ} 0 1 = cc in absurd (omega arith)))
@@ -60,7 +58,6 @@ module _ {A : Type 0} (P : TypeFault → Type 0) (k : ℕ) (e : TypeFault) where
 
   of-class-err : (x : Result BType TypeFault) (f : ℕ → Result A TypeFault) → of-class k x f ≡ Err e
       → (x ≡ Err e → P e) → ((t : BType) → x ≡ Ok t → No-class t → P (Part k)) → ((c : ℕ) → x ≡ Ok (Class c) → f c ≡ Err e → P e) → P e
-  unfolding of-class
   of-class-err (Err g) f h p q s = let same′ : g ≡ e = cc in p (ap Err same′)
   of-class-err (Ok Int) f h p q s = let same′ : Part k ≡ e = cc in subst P same′ (q Int refl (λ c z. let y : _≡_ {A = ℕ} 0 1 = cc in absurd (omega arith)))
   of-class-err (Ok Boolean) f h p q s = let same′ : Part k ≡ e = cc in subst P same′ (q Boolean refl (λ c z. let y : _≡_ {A = ℕ} 0 1 = cc in absurd (omega arith)))
@@ -72,23 +69,19 @@ module _ {A : Type 0} (P : TypeFault → Type 0) (k : ℕ) (e : TypeFault) where
 
   of-type-err : (x : Result BType TypeFault) (u : BType) (r : Result A TypeFault) → of-type k x u r ≡ Err e
       → (x ≡ Err e → P e) → ((t : BType) → x ≡ Ok t → (t ≡ u → ⊥) → P (Argument k)) → (r ≡ Err e → P e) → P e
-  unfolding of-type
   of-type-err (Err f) u r h p q s = let same′ : f ≡ e = cc in p (ap Err same′)
   of-type-err (Ok t) u r h p q s = typed-err-by t u (same t u) r refl h (λ ne. q t refl ne) s
 
   member-err : {M : Type 0} (o : Option M) (f : M → Result A TypeFault) → member k o f ≡ Err e
       → (o ≡ None → P (Member k)) → ((m : M) → o ≡ Some m → f m ≡ Err e → P e) → P e
-  unfolding member
   member-err None f h p q = let same′ : Member k ≡ e = cc in subst P same′ (p refl)
   member-err (Some m) f h p q = q m refl h
 
   inside-err : (Γ : Where) (f : ℕ → BType → Result A TypeFault) → inside k Γ f ≡ Err e → (Γ ≡ at-top → P (Top k)) → ((c : ℕ) (u : BType) → f c u ≡ Err e → P e) → P e
-  unfolding inside
   inside-err at-top f h p q = let same′ : Top k ≡ e = cc in subst P same′ (p refl)
   inside-err (in-method c u) f h p q = q c u h
 
 then-com-err : (P : TypeFault → Type 0) (e : TypeFault) (x r : Result (Unit {0}) TypeFault) → then-com x r ≡ Err e → (x ≡ Err e → P e) → (r ≡ Err e → P e) → P e
-unfolding then-com
 then-com-err P e (Err f) r h p q = p h
 then-com-err P e (Ok u) r h p q = q h
 
@@ -98,7 +91,6 @@ not-own-by B d c f u true e h = inr h
 not-own-by B d c f u false e h = inl (λ t z. let s : c ≡ d = cc in eqb-false c d e s)
 
 not-own : (B : Book) (Γ : Where) (c : ℕ) (f : Name) → own-field B Γ c f ≡ None → No-field B Γ c f
-unfolding own-field
 not-own B at-top c f h = inl (λ t z. let y : _≡_ {A = ℕ} 0 1 = cc in absurd (omega arith))
 not-own B (in-method d u) c f h = not-own-by B d c f u (eqb c d) refl h
 

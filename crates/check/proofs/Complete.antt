@@ -27,40 +27,31 @@ same-self (Class c) = eq-eqb c c refl
 -- each test passes where its part is as it must be
 module _ {A : Type 0} (k : ℕ) (x : Result BType TypeFault) (r : Result A TypeFault) where
   an-int-by : x ≡ Ok Int → an-int k x r ≡ r
-  unfolding an-int
   an-int-by h = rw h
 
   a-boolean-by : x ≡ Ok Boolean → a-boolean k x r ≡ r
-  unfolding a-boolean
   a-boolean-by h = rw h
 
   of-type-by : (u : BType) → x ≡ Ok u → of-type k x u r ≡ r
-  unfolding of-type
   of-type-by u h = rw (h, same-self u)
 
 module _ {A : Type 0} (k : ℕ) where
   of-class-by : (x : Result BType TypeFault) (f : ℕ → Result A TypeFault) (c : ℕ) → x ≡ Ok (Class c) → of-class k x f ≡ f c
-  unfolding of-class
   of-class-by x f c h = rw h
 
   member-by : {M : Type 0} (o : Option M) (f : M → Result A TypeFault) (m : M) → o ≡ Some m → member k o f ≡ f m
-  unfolding member
   member-by o f m h = rw h
 
   inside-by : (Γ : Where) (f : ℕ → BType → Result A TypeFault) (c : ℕ) (u : BType) → Γ ≡ in-method c u → inside k Γ f ≡ f c u
-  unfolding inside
   inside-by Γ f c u h = rw h
 
   pub at-node-by : (o : Option Node) (f : Node → Result A TypeFault) (n : Node) → o ≡ Some n → before k n ≡ true → at-node k o f ≡ f n
-  unfolding at-node
   at-node-by o f n h b = rw (h, b)
 
 own-field-by : (B : Book) (Γ : Where) (c : ℕ) (f : Name) (t u : BType) → Γ ≡ in-method c t → find (fields-of (B .class c)) f ≡ Some u → own-field B Γ c f ≡ Some u
-unfolding own-field
 own-field-by B Γ c f t u e h = let s : eqb c c ≡ true = eq-eqb c c refl in rw (e, s) h
 
 then-com-by : (x r : Result (Unit {0}) TypeFault) → x ≡ Ok tt → then-com x r ≡ r
-unfolding then-com
 then-com-by x r h = rw h
 
 -- the parts of a well-formed book's nodes lie before them

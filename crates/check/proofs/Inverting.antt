@@ -38,21 +38,18 @@ same-types (Class c) (Class d) h = ap Class (eqb-true c d h)
 
 module _ {A : Type 0} where
   pub an-int-ok : (k : ℕ) (x : Result BType TypeFault) (r : Result A TypeFault) (a : A) → an-int k x r ≡ Ok a → (x ≡ Ok Int) × (r ≡ Ok a)
-  unfolding an-int
   an-int-ok k (Err e) r a h = clash h
   an-int-ok k (Ok Int) r a h = (refl, h)
   an-int-ok k (Ok Boolean) r a h = clash h
   an-int-ok k (Ok (Class c)) r a h = clash h
 
   pub a-boolean-ok : (k : ℕ) (x : Result BType TypeFault) (r : Result A TypeFault) (a : A) → a-boolean k x r ≡ Ok a → (x ≡ Ok Boolean) × (r ≡ Ok a)
-  unfolding a-boolean
   a-boolean-ok k (Err e) r a h = clash h
   a-boolean-ok k (Ok Int) r a h = clash h
   a-boolean-ok k (Ok Boolean) r a h = (refl, h)
   a-boolean-ok k (Ok (Class c)) r a h = clash h
 
   pub of-class-ok : (k : ℕ) (x : Result BType TypeFault) (f : ℕ → Result A TypeFault) (a : A) → of-class k x f ≡ Ok a → (c : ℕ) × (x ≡ Ok (Class c)) × (f c ≡ Ok a)
-  unfolding of-class
   of-class-ok k (Err e) f a h = clash h
   of-class-ok k (Ok Int) f a h = clash h
   of-class-ok k (Ok Boolean) f a h = clash h
@@ -63,17 +60,14 @@ module _ {A : Type 0} where
   of-type-by k t u false r e a s h = clash h
 
   pub of-type-ok : (k : ℕ) (x : Result BType TypeFault) (u : BType) (r : Result A TypeFault) (a : A) → of-type k x u r ≡ Ok a → (x ≡ Ok u) × (r ≡ Ok a)
-  unfolding of-type
   of-type-ok k (Err e) u r a h = clash h
   of-type-ok k (Ok t) u r a h = let p = of-type-by k t u (same t u) r _ a refl h in (ap Ok (p .0), p .1)
 
   pub member-ok : {M : Type 0} (k : ℕ) (o : Option M) (f : M → Result A TypeFault) (a : A) → member k o f ≡ Ok a → (m : M) × (o ≡ Some m) × (f m ≡ Ok a)
-  unfolding member
   member-ok k None f a h = clash h
   member-ok k (Some m) f a h = (m, refl, h)
 
   pub inside-ok : (k : ℕ) (Γ : Where) (f : ℕ → BType → Result A TypeFault) (a : A) → inside k Γ f ≡ Ok a → (c : ℕ) × (u : BType) × (Γ ≡ in-method c u) × (f c u ≡ Ok a)
-  unfolding inside
   inside-ok k at-top f a h = clash h
   inside-ok k (in-method c u) f a h = (c, u, refl, h)
 
@@ -83,12 +77,10 @@ own-by B d c f u w true e h = (ap (λ x. in-method x u) (sym (eqb-true c d e)), 
 own-by B d c f u w false e h = no-some h
 
 pub own-field-ok : (B : Book) (Γ : Where) (c : ℕ) (f : Name) (w : BType) → own-field B Γ c f ≡ Some w → (u : BType) × (Γ ≡ in-method c u) × (find (fields-of (B .class c)) f ≡ Some w)
-unfolding own-field
 own-field-ok B at-top c f w h = no-some h
 own-field-ok B (in-method d u) c f w h = let p = own-by B d c f u w (eqb c d) refl h in (u, p .0, p .1)
 
 pub then-com-ok : (x r : Result (Unit {0}) TypeFault) (a : Unit {0}) → then-com x r ≡ Ok a → (x ≡ Ok tt) × (r ≡ Ok a)
-unfolding then-com
 then-com-ok (Err e) r a h = clash h
 then-com-ok (Ok u) r a h = (refl, h)
 
@@ -97,6 +89,5 @@ at-by k n f a true e h = h
 at-by k n f a false e h = clash h
 
 pub at-node-ok : {A : Type 0} (k : ℕ) (o : Option Node) (f : Node → Result A TypeFault) (a : A) → at-node k o f ≡ Ok a → (n : Node) × (o ≡ Some n) × (f n ≡ Ok a)
-unfolding at-node
 at-node-ok k None f a h = clash h
 at-node-ok k (Some n) f a h = (n, refl, at-by k n f a (before k n) _ h)

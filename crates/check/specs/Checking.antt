@@ -33,46 +33,46 @@ same (Class c) (Class d) = eqb c d
 
 module _ {A : Type 0} where
   -- A part of node k that must be an int, a boolean, of a class; then go on.
-  unfoldable pub an-int : ℕ → Result BType TypeFault → Result A TypeFault → Result A TypeFault
+  abbrev pub an-int : ℕ → Result BType TypeFault → Result A TypeFault → Result A TypeFault
   an-int k (Err e) r = Err e
   an-int k (Ok Int) r = r
   an-int k (Ok Boolean) r = Err (Part k)
   an-int k (Ok (Class c)) r = Err (Part k)
 
-  unfoldable pub a-boolean : ℕ → Result BType TypeFault → Result A TypeFault → Result A TypeFault
+  abbrev pub a-boolean : ℕ → Result BType TypeFault → Result A TypeFault → Result A TypeFault
   a-boolean k (Err e) r = Err e
   a-boolean k (Ok Int) r = Err (Part k)
   a-boolean k (Ok Boolean) r = r
   a-boolean k (Ok (Class c)) r = Err (Part k)
 
-  unfoldable pub of-class : ℕ → Result BType TypeFault → (ℕ → Result A TypeFault) → Result A TypeFault
+  abbrev pub of-class : ℕ → Result BType TypeFault → (ℕ → Result A TypeFault) → Result A TypeFault
   of-class k (Err e) f = Err e
   of-class k (Ok Int) f = Err (Part k)
   of-class k (Ok Boolean) f = Err (Part k)
   of-class k (Ok (Class c)) f = f c
 
   -- An argument or a written value of node k that must have the type u.
-  unfoldable pub of-type : ℕ → Result BType TypeFault → BType → Result A TypeFault → Result A TypeFault
+  abbrev pub of-type : ℕ → Result BType TypeFault → BType → Result A TypeFault → Result A TypeFault
   of-type k (Err e) u r = Err e
   of-type k (Ok t) u r = cond (same t u) r (Err (Argument k))
 
   -- A field or a method that must be there.
-  unfoldable pub member : {M : Type 0} → ℕ → Option M → (M → Result A TypeFault) → Result A TypeFault
+  abbrev pub member : {M : Type 0} → ℕ → Option M → (M → Result A TypeFault) → Result A TypeFault
   member k None f = Err (Member k)
   member k (Some m) f = f m
 
   -- The class and the parameter type of the method that a strip stands in.
-  unfoldable pub inside : ℕ → Where → (ℕ → BType → Result A TypeFault) → Result A TypeFault
+  abbrev pub inside : ℕ → Where → (ℕ → BType → Result A TypeFault) → Result A TypeFault
   inside k at-top f = Err (Top k)
   inside k (in-method c u) f = f c u
 
 -- A field of class c that may be read and written here: c must be the current class.
-unfoldable pub own-field : Book → Where → ℕ → Name → Option BType
+abbrev pub own-field : Book → Where → ℕ → Name → Option BType
 own-field B at-top c f = None
 own-field B (in-method d u) c f = cond (eqb c d) (find (fields-of (B .class c)) f) None
 
 -- Both commands.
-unfoldable pub then-com : Result (Unit {0}) TypeFault → Result (Unit {0}) TypeFault → Result (Unit {0}) TypeFault
+abbrev pub then-com : Result (Unit {0}) TypeFault → Result (Unit {0}) TypeFault → Result (Unit {0}) TypeFault
 then-com (Err e) r = Err e
 then-com (Ok u) r = r
 
@@ -134,7 +134,7 @@ before k (While a b) = ltb a k && ltb b k
 before k Skip = true
 
 -- What is found at node k, if there is a node and its parts lie before it.
-unfoldable pub at-node : {A : Type 0} → ℕ → Option Node → (Node → Result A TypeFault) → Result A TypeFault
+abbrev pub at-node : {A : Type 0} → ℕ → Option Node → (Node → Result A TypeFault) → Result A TypeFault
 at-node k None f = Err (Part k)
 at-node k (Some n) f = cond (before k n) (f n) (Err (Part k))
 

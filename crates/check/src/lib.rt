@@ -4,7 +4,14 @@ ghost use Rattle.cool.specs.Book.{Book, Formed};
 ghost use Rattle.cool.specs.Nodes.{Where};
 ghost use Rattle.check.specs.Checking.{Exact};
 
+mod base;
+mod decode;
 pub mod fault;
+mod lookup;
+mod place;
+mod types;
+
+pub use base::CheckedBook;
 
 // Types are found exactly as the rules give them, and each refusal holds at its spot.
 pub fn checking_is_exact() -> bool
