@@ -1,5 +1,5 @@
 -- The bound on the depth does not matter where it suffices.
-use mathlib.Core.Path.{_≡_, refl, ap, _∙_}
+use mathlib.Core.Path.{_≡_, refl, _∙_}
 use mathlib.Core.Bool.{Bool, true, false, cond, _&&_}
 use Prim.Native.Nat.{ℕ, zero, suc, _<_}
 use native.Mathlib.Omega.{arith}
@@ -94,10 +94,3 @@ module _ (B : Book) (Γ : Where) where
       at-node-by k (B .node k) _ n e h
       ∙ coms-same B Γ k (type-in k B Γ) (λ a. type-in (suc a) B Γ a) (λ a p. same-type k (suc a) a p (omega arith))
       (com-in k B Γ) (λ a. com-in (suc a) B Γ a) (λ a p. same-com k (suc a) a p (omega arith)) n h
-
--- a part's answer, whatever its number is called
-pub part-type : (B : Book) (Γ : Where) (i a : ℕ) (x : Result BType TypeFault) → x ≡ type-in (suc i) B Γ i → i ≡ a → x ≡ type-in (suc a) B Γ a
-part-type B Γ i a x h e = h ∙ ap (λ j. type-in (suc j) B Γ j) e
-
-pub part-com : (B : Book) (Γ : Where) (i a : ℕ) (x : Result (Unit {0}) TypeFault) → x ≡ com-in (suc i) B Γ i → i ≡ a → x ≡ com-in (suc a) B Γ a
-part-com B Γ i a x h e = h ∙ ap (λ j. com-in (suc j) B Γ j) e

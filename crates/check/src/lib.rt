@@ -1,4 +1,5 @@
-// Checking a book's types: what the checker finds of each node, as a definition, and why it refuses. The code comes on top.
+// Checking a book's types: what the checker finds of each node and why it refuses, as a definition, and the code that finds it.
+// The call that checks a whole book is not built yet.
 ghost use Prim.Native.Nat.{ℕ};
 ghost use Rattle.cool.specs.Book.{Book, Formed};
 ghost use Rattle.cool.specs.Nodes.{Where};
