@@ -1,4 +1,6 @@
 // A rule book: the file's numbers, entries, nodes and names, and the first fault of a file that is none.
+#![tactic(auto)]
+
 ghost use Rattle.std.specs.Prelude.{◌≡◌, MatchOption, MatchResult};
 ghost use Rattle.std.specs.Option.{option_map};
 ghost use Rattle.book.specs.Layout.{counts_of, class_at, field_at};

@@ -1,5 +1,7 @@
 // Checking a book's types: what the checker finds of each node and why it refuses, as a definition, and the code that finds it.
 // The call that checks a whole book is not built yet.
+#![tactic(auto)]
+
 ghost use Rattle.std.specs.Prelude.{ℕ};
 ghost use Rattle.cool.specs.Book.{Book, Formed};
 ghost use Rattle.cool.specs.Nodes.{Where};

@@ -1,4 +1,6 @@
 // Checking a book: it is accepted exactly when COOL's typing rules derive a type for it.
+#![tactic(auto)]
+
 ghost use Rattle.std.specs.Prelude.{◌≡◌, IfOk};
 ghost use Rattle.book.specs.Books.{bytes_of};
 ghost use Rattle.book.specs.Faults.{Clear};

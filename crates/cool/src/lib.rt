@@ -1,5 +1,7 @@
 // The language COOL: its syntax and rules, which book a file's bytes are, and which program a book stands for. All of it is definitions, in specs/;
 // the functions below hold the laws that the definitions must meet.
+#![tactic(auto)]
+
 ghost use Rattle.std.specs.Prelude.{ℕ, List};
 ghost use Rattle.book.specs.Faults.{Clear};
 ghost use Rattle.cool.specs.Syntax.{Program};

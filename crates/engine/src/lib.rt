@@ -1,4 +1,6 @@
 // The engine: a checked book is begun, its run is advanced and settled.
+#![tactic(auto)]
+
 mod base;
 mod calls;
 mod done;

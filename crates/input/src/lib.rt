@@ -1,4 +1,6 @@
 // What a program is given: a count, that many readings, and a book.
+#![tactic(auto)]
+
 ghost use Rattle.std.specs.Prelude.{◌≡◌, ◌^◌, ◌<◌, ◌≤◌, true, false, map, length, drop, MatchOption, slice_index};
 ghost use Rattle.std.specs.List.{range_with_len};
 ghost use Rattle.input.specs.Day.{reading_count, wrong_input, book_bytes, half, reading};

@@ -1,4 +1,6 @@
 // The listing of a book: what is in a file and its type, or the exact reason why it is no book or has no type.
+#![tactic(auto)]
+
 ghost use Rattle.std.specs.Prelude.{IfOk};
 ghost use Rattle.judge.specs.Answer.{Answers};
 

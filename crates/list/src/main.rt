@@ -1,4 +1,6 @@
 // Reads a day's input from standard input, and prints what book is in it, or why there is none.
+#![tactic(auto)]
+
 use std::io::{Read, Write};
 
 fn run(rt: &HostRuntime) -> anyhow::Result<()> {

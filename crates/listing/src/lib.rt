@@ -1,4 +1,6 @@
 // The listing of a book: what is in a file, or the exact reason why it is no book.
+#![tactic(auto)]
+
 ghost use Rattle.std.specs.Prelude.{IfOk};
 ghost use Rattle.listing.specs.Text.{Adds};
 ghost use Rattle.listing.specs.Answer.{refused_line, Answers};

@@ -1,4 +1,6 @@
 // The step machine: what it holds, in code; its steps as definitions, in specs/; and its laws, each held by a function.
+#![tactic(auto)]
+
 ghost use Rattle.std.specs.Prelude.{ℕ, ◌≤◌};
 ghost use Rattle.cool.specs.Syntax.{Ty, Expr, CE};
 ghost use Rattle.cool.specs.Says.{Accepted};

@@ -1,4 +1,6 @@
 // Number rules: fixed ends, and a difference of two numbers that lies between them, or none.
+#![tactic(auto)]
+
 ghost use Rattle.std.specs.Prelude.{◌≡◌};
 ghost use Rattle.numbers.specs.Rule.{Rule, between, within};
 ghost use Rattle.numbers.specs.Rules.{strict, java, clock, minus_in_32_bits};

@@ -1,4 +1,6 @@
 // Piles over places that the caller lends.
+#![tactic(auto)]
+
 ghost use Rattle.std.specs.Prelude.{◌≡◌, ◌-◌, ◌≤◌, false, [], ◌∷◌, ◌++◌, length, take, if◌then◌else◌, None, nat_lt, slice_set};
 ghost use Rattle.std.specs.List.{IsAnyAnswer, slice_get};
 ghost use Rattle.pile.specs.Pile.{items, size, Kept, last, without_last};

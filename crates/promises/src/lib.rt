@@ -1,4 +1,6 @@
 // The promise over every list of calls.
+#![tactic(auto)]
+
 ghost use Rattle.promises.specs.Promises.{EveryListOfCalls};
 
 // After every list of calls, the promises hold.

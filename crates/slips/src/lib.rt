@@ -1,4 +1,6 @@
 // The slip: what is printed of a run that is settled.
+#![tactic(auto)]
+
 ghost use Rattle.std.specs.Prelude.{◌≡◌, []};
 ghost use Rattle.numbers.specs.Rule.{Rule};
 ghost use Rattle.pile.specs.Pile.{items, size, Kept};

@@ -1,4 +1,6 @@
 // Object stores: records with handles, within limits that are fixed when a store is made.
+#![tactic(auto)]
+
 ghost use Rattle.std.specs.Prelude.{◌≡◌};
 ghost use Rattle.std.specs.List.{slice_get};
 ghost use Rattle.store.specs.Meaning.{Means, Sound, store, handles, Makes, Puts, class_at, value_at};

@@ -1,4 +1,6 @@
 // Tables of test cases, as the programs that run them read them.
+#![tactic(auto)]
+
 ghost use Rattle.std.specs.Prelude.{◌≡◌, ◌+◌, ◌≤◌, true, false, length, take, drop, MatchOption};
 ghost use Rattle.table.specs.Items.{no_item, item_bytes, after_item};
 

@@ -1,4 +1,6 @@
 // Both stores against one table of calls, filled to their limits and one beyond: `stdout` has what each answers.
+#![tactic(auto)]
+
 ghost use Rattle.std.specs.Prelude.{◌≡◌, Some, MatchResult};
 ghost use Rattle.store.specs.declared.StoreError.TheVariants.{NoMemory};
 

@@ -1,4 +1,6 @@
 // Prints the first two lines of the answer to each input of a table of torn books: see tools/torn.py.
+#![tactic(auto)]
+
 use std::alloc::Global;
 use std::io::{Read, Write};
 

@@ -1,5 +1,7 @@
 // Checks each book of a table. It prints the right answers to a case where the last line of ours is one of them, and else
 // that line: see tools/typed.py.
+#![tactic(auto)]
+
 use std::alloc::Global;
 use std::io::{Read, Write};
 use table::first_item;
