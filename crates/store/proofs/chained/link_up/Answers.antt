@@ -10,8 +10,8 @@ pub loop-i-preserved : goal.loop-i-preserved
 loop-i-preserved c =
     let i = c.loop-i.invariant in (
       omega arith,
-      c.push-reserved.ensures.capacity ∙ i.1,
-      omega (arith, i.2, c.push-reserved.ensures.len),
-      chain_more _ (vec_items c.loop-i.cells) c.loop-i.next _ i.3 _ _ _ _ c.push-reserved.ensures.items (c.len-here.ensures ∙ c.loop-i.cells.ok.0)
+      c.push_reserved.ensures.capacity ∙ i.1,
+      omega (arith, i.2, c.push_reserved.ensures.len),
+      chain_more _ (vec_items c.loop-i.cells) c.loop-i.next _ i.3 _ _ _ _ c.push_reserved.ensures.items (c.len-here.ensures ∙ c.loop-i.cells.ok.0)
           (drop_down _ c.loop-i.i _ (omega arith) (omega (arith, i.0))),
     )

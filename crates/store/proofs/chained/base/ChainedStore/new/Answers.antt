@@ -3,8 +3,17 @@ use Rattle.store.specs.Meaning.{store}
 use Rattle.store.specs.Chains.{no_place}
 use Rattle.store.proofs.chained.base.ChainedStore.new.Goals as goal
 
-pub invariant-of-result : goal.invariant-of-result
+pub invariant_of-result : goal.invariant_of-result
 unfolding store
-invariant-of-result c =
+invariant_of-result c =
     let none = c.in-Ok.ensures.items in
-    (λ a. no_place _ none a, (λ a b _. no_place _ none a, (λ a b _. no_place _ none a, (search rules, ((search rules, search rules, refl, refl), ((search rules, search rules), ((search rules, search rules), (search rules, tt))))))))
+    record {
+      inside = λ a. no_place _ none a;
+      apart = λ a b _. no_place _ none a;
+      once = λ a b _. no_place _ none a;
+      total = search rules;
+      counts = (search rules, search rules, refl, refl);
+      reserved = (search rules, search rules);
+      few = (search rules, search rules);
+      bounds = search rules;
+    }
