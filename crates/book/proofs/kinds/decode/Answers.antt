@@ -4,4 +4,4 @@ use Rattle.book.proofs.kinds.decode.Goals as goal
 
 pub returns : goal.returns
 unfolding decoded
-returns c = c.of-kind.ensures
+returns c = c.of_kind.ensures

@@ -4,5 +4,5 @@ use Rattle.book.specs.Names.{spelled}
 use Rattle.book.proofs.Firsts.{at_first}
 use Rattle.book.proofs.names.is_spelled.Goals as goal
 
-pub returns-then-is-letter : goal.returns-then-is-letter
-returns-then-is-letter c = let e = at_first spelled c.args.bytes.now (omega (arith, ltb-true, ltb-false, eqb-true, eqb-false)) in search rules
+pub returns-then-is_letter : goal.returns-then-is_letter
+returns-then-is_letter c = let e = at_first spelled c.args.bytes.now (omega (arith, ltb-true, ltb-false, eqb-true, eqb-false)) in search rules

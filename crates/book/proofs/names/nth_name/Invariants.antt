@@ -3,4 +3,4 @@ use Rattle.book.specs.Names.{after_names}
 use Rattle.book.proofs.names.nth_name.Given as goal
 
 abbrev pub invariant-loop-m : goal.invariant-loop-m
-invariant-loop-m l = after_names l.-m l.bytes ≡ Some l.rest
+invariant-loop-m l = after_names l._m l.bytes ≡ Some l.rest

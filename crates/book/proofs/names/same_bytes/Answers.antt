@@ -4,4 +4,4 @@ use Rattle.book.proofs.names.same_bytes.Goals as goal
 use Rattle.std.proofs.lemmas.Bool.Decides.{Decides-eqb}
 
 pub returns : goal.returns
-returns c = let h = slice_eq-Decides Decides-eqb _ _ _ c.eq.ensures in search (rules, bytes_eq-Decides)
+returns c = let h = slice_eq-Decides Decides-eqb c.args.x.now c.args.y.now _ c.eq.ensures in search (rules, bytes_eq-Decides)

@@ -8,5 +8,5 @@ pub loop-n-preserved : goal.loop-n-preserved
 loop-n-preserved c = (
   after_more c.loop-n.n c.args.bytes.now _ _ _ c.loop-n.invariant.0 c.in-Some.ensures,
   none_more (wrong_name_in c.args.count c.args.bytes.now) c.loop-n.n c.loop-n.invariant.1
-      (name_right c.args.count c.loop-n.n c.args.bytes.now _ _ _ (omega arith) c.loop-n.invariant.0 c.in-Some.ensures (sym c.if-is-among.ensures)),
+      (name_right c.args.count c.loop-n.n c.args.bytes.now _ _ _ (omega arith) c.loop-n.invariant.0 c.in-Some.ensures (sym c.if-is_among.ensures)),
 )
