@@ -7,8 +7,8 @@ use Rattle.input.proofs.fill.Goals as goal
 
 pub loop-i-preserved : goal.loop-i-preserved
 loop-i-preserved c =
-    let f : SFits w32 c.reading-at.result = search rules in
-    let is = to_z-of_z_to w32 c.reading-at.result (reading c.args.bytes.now c.loop-i.i) f c.reading-at.ensures in
+    let f : SFits w32 c.reading_at.result = search rules in
+    let is = to_z-of_z_to w32 c.reading_at.result (reading c.args.bytes.now c.loop-i.i) f c.reading_at.ensures in
     subst (λ (x : ℤ). (k : ℕ) → k < c.loop-i.i + 1 → get_or (set c.loop-i.places c.loop-i.i x) k (pos 0) ≡ reading c.args.bytes.now k) (sym is)
     (fill_by_more (reading c.args.bytes.now) c.loop-i.places c.loop-i.i (pos 0) (omega arith) c.loop-i.invariant)
 

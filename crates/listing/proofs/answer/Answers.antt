@@ -3,8 +3,8 @@ use Rattle.listing.proofs.Chains.{no_more, whole, ◌▸◌}
 use Rattle.listing.proofs.Closing.{answered, refused_by, listed_by}
 use Rattle.listing.proofs.answer.Goals as goal
 
-pub returns-in-default : goal.returns-in-default
-returns-in-default c = answered c.new-out.ensures.items c.in-ok-put-refusal.ensures (no_input c.in-default.ensures)
+pub returns-in_default : goal.returns-in_default
+returns-in_default c = answered c.new-out.ensures.items c.in_ok-put_refusal.ensures (no_input c.in_default.ensures)
 
 pub returns-in-ok-put-refusal-2 : goal.returns-in-ok-put-refusal-2
 returns-in-ok-put-refusal-2 c =

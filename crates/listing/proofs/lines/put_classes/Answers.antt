@@ -8,4 +8,4 @@ pub loop-i-init : goal.loop-i-init
 loop-i-init c = each_none (nth_class_lines (bytes_of c.args.book.now)) 0
 
 pub loop-i-preserved : goal.loop-i-preserved
-loop-i-preserved c = each_more (nth_class_lines (bytes_of c.args.book.now)) 0 c.loop-i.i c.loop-i.invariant (rw zero-add c.in-ok-put-class.ensures)
+loop-i-preserved c = each_more (nth_class_lines (bytes_of c.args.book.now)) 0 c.loop-i.i c.loop-i.invariant (rw zero-add c.in_ok-put_class.ensures)

@@ -7,4 +7,4 @@ pub loop-i-init : goal.loop-i-init
 loop-i-init c = each_none (nth_field_line (bytes_of c.args.book.now)) c.args.first
 
 pub loop-i-preserved : goal.loop-i-preserved
-loop-i-preserved c = each_more (nth_field_line (bytes_of c.args.book.now)) c.args.first c.loop-i.i c.loop-i.invariant c.in-ok-put-field.ensures
+loop-i-preserved c = each_more (nth_field_line (bytes_of c.args.book.now)) c.args.first c.loop-i.i c.loop-i.invariant c.in_ok-put_field.ensures

@@ -4,4 +4,4 @@ use Rattle.listing.proofs.lines.put_head.Goals as goal
 
 pub returns : goal.returns
 unfolding method_head
-returns c = whole (c.in-ok-put.ensures ▸ c.in-ok-put-type.ensures ▸ c.in-ok-put-2.ensures ▸ c.in-ok-put-name.ensures ▸ c.in-ok-put-3.ensures ▸ c.in-ok-put-type-2.ensures ▸ no_more)
+returns c = whole (c.in_ok-put.ensures ▸ c.in_ok-put_type.ensures ▸ c.in_ok-put-2.ensures ▸ c.in_ok-put_name.ensures ▸ c.in_ok-put-3.ensures ▸ c.in_ok-put_type-2.ensures ▸ no_more)

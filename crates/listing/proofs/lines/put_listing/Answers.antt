@@ -8,4 +8,4 @@ pub returns : goal.returns
 returns c =
     subst (λ text. Added (vec_items c.args.out.now) (vec_items c.put.new.out) text)
     (listing_is (bytes_of c.args.book.now) c.counts-counts.result c.top.result c.counts-counts.ensures c.top.ensures)
-    (whole (c.in-ok-put-counts.ensures ▸ c.in-ok-put-classes.ensures ▸ c.in-ok-put-count.ensures ▸ c.in-ok-put.ensures ▸ no_more))
+    (whole (c.in_ok-put_counts.ensures ▸ c.in_ok-put_classes.ensures ▸ c.in_ok-put_count.ensures ▸ c.in_ok-put.ensures ▸ no_more))

@@ -7,4 +7,4 @@ pub returns-then-n-lt10 : goal.returns-then-n-lt10
 returns-then-n-lt10 t c = search (rules, decimal_digit)
 
 pub returns : goal.returns
-returns t c = digit_more c.args.n c.if-n-lt10.false (omega arith) c.in-ok-put-number.ensures (record { is = c.in-ok-push-2.ensures.items })
+returns t c = digit_more c.args.n c.if-n-lt10.false (omega arith) c.in_ok-put_number.ensures (record { is = c.in_ok-push-2.ensures.items })

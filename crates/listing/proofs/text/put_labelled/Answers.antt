@@ -4,4 +4,4 @@ use Rattle.listing.proofs.text.put_labelled.Goals as goal
 
 pub returns : goal.returns
 unfolding labelled
-returns c = whole (c.in-ok-put.ensures ▸ c.in-ok-put-number.ensures ▸ no_more)
+returns c = whole (c.in_ok-put.ensures ▸ c.in_ok-put_number.ensures ▸ no_more)
