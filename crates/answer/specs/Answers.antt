@@ -8,8 +8,8 @@ use Rattle.input.specs.Day.{wrong_input, book_bytes, readings}
 use Rattle.listing.specs.Answer.{refused_line}
 use Rattle.cool.specs.Book.{Book}
 use Rattle.cool.specs.View.{view}
-use Rattle.check.specs.declared.fault.TypeFault.{TypeFault}
-use Rattle.check.specs.Causes.{number as typing_number, place as typing_place}
+use Rattle.checker.specs.declared.fault.TypeFault.{TypeFault}
+use Rattle.checker.specs.Causes.{number as typing_number, place as typing_place}
 use Rattle.checked.specs.Holding.{Holds}
 use Rattle.checked.specs.Accepting.{HasType, HasNoType}
 use Rattle.machine.specs.declared.state.End.{End}

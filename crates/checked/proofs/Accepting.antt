@@ -16,19 +16,19 @@ use Rattle.cool.proofs.Forming.{formed}
 use Rattle.cool.proofs.Stands.{method_part}
 use Rattle.cool.proofs.Typing.{class_says}
 use Rattle.cool.proofs.Accepts.{distinct_find, accepts_exactly}
-use Rattle.check.specs.declared.fault.TypeFault.{TypeFault}
-use Rattle.check.specs.declared.fault.TypeFault.TheVariants.{Repeated, Returned}
-use Rattle.check.specs.Causes.{place_of, other_result}
+use Rattle.checker.specs.declared.fault.TypeFault.{TypeFault}
+use Rattle.checker.specs.declared.fault.TypeFault.TheVariants.{Repeated, Returned}
+use Rattle.checker.specs.Causes.{place_of, other_result}
 use Rattle.checked.specs.Holding.{methods_of, same_class, same_field, same_method, at_a_node, Holds}
-use Rattle.check.specs.Checking.{same, then_com, type_in, com_in}
+use Rattle.checker.specs.Checking.{same, then_com, type_in, com_in}
 use Rattle.checked.specs.Methods.{gives_type, method_in, MethodsTyped, UntypedMethod}
 use Rattle.checked.specs.declared.base.Decoded.{Decoded}
 use Rattle.checked.specs.Checked.{decoded_bytes, decoded_book, Decodes}
 use Rattle.checked.specs.Accepting.{HasType, HasNoType}
-use Rattle.check.proofs.Inverting.{clash, same_types, then_com_ok}
-use Rattle.check.proofs.Complete.{same_self}
-use Rattle.check.proofs.Caused.{apart, nothing_wrong, then_com_err}
-use Rattle.check.proofs.Exactly.{exact}
+use Rattle.checker.proofs.Inverting.{clash, same_types, then_com_ok}
+use Rattle.checker.proofs.Complete.{same_self}
+use Rattle.checker.proofs.Caused.{apart, nothing_wrong, then_com_err}
+use Rattle.checker.proofs.Exactly.{exact}
 
 -- what stands among the methods of a class
 methods_part : {m : Name} {q : Meth} (i : ℕ) (o : Option Part) → slice_get (methods_of o) i ≡ Some (m, q) → (p : Part) × (o ≡ Some p) × (slice_get p.methods i ≡ Some (m, q))

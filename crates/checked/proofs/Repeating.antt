@@ -12,7 +12,7 @@ use Rattle.cool.specs.View.{run, view}
 use Rattle.cool.specs.Accepts.{Distinct, NamesDistinct}
 use Rattle.cool.proofs.Clear.{fields_add_up}
 use Rattle.checked.specs.declared.base.Decoded.{Decoded}
-use Rattle.check.specs.declared.fault.TypeFault.TheVariants.{Repeated}
+use Rattle.checker.specs.declared.fault.TypeFault.TheVariants.{Repeated}
 use Rattle.checked.specs.Naming.{AllDistinct, StandsEarlier, MembersDistinct}
 use Rattle.checked.specs.Holding.{methods_of, fields_before, methods_before, field_entry, method_entry, same_class, same_field, same_method, Holds}
 use Rattle.checked.specs.Checked.{decoded_bytes, own_fields, own_methods, named_field, named_method, part_of, class_there, decoded_book, Decodes}

@@ -6,7 +6,7 @@ use Rattle.cool.specs.Book.{Book, type_of}
 use Rattle.cool.specs.View.{view}
 use Rattle.cool.specs.Says.{Accepted}
 use Rattle.checked.specs.declared.base.CheckedBook.{CheckedBook}
-use Rattle.check.specs.declared.fault.TypeFault.{TypeFault}
+use Rattle.checker.specs.declared.fault.TypeFault.{TypeFault}
 use Rattle.checked.specs.Checked.{checked_bytes, book_of, top_type}
 use Rattle.checked.specs.Holding.{Holds}
 

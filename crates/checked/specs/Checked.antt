@@ -13,8 +13,8 @@ use Rattle.cool.specs.Nodes.{Where, at_top, in_method}
 use Rattle.cool.specs.View.{view}
 use Rattle.checked.specs.declared.base.Decoded.{Decoded}
 use Rattle.checked.specs.declared.base.CheckedBook.{CheckedBook}
-use Rattle.check.specs.declared.place.Place.{Place}
-use Rattle.check.specs.declared.place.Place.TheVariants.{Top, In}
+use Rattle.checker.specs.declared.place.Place.{Place}
+use Rattle.checker.specs.declared.place.Place.TheVariants.{Top, In}
 use Rattle.checked.specs.declared.table.Method.{Method}
 use Rattle.checked.specs.Tables.{among_first}
 

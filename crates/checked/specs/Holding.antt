@@ -5,9 +5,9 @@ use Rattle.std.specs.List.{slice_get}
 use Rattle.book.specs.declared.node.«Type».{«Type» as BType}
 use Rattle.cool.specs.Syntax.{Name}
 use Rattle.cool.specs.Book.{Meth, Part as APart, Book, fields_of}
-use Rattle.check.specs.declared.fault.TypeFault.{TypeFault}
-use Rattle.check.specs.declared.fault.TypeFault.TheVariants.{Repeated}
-use Rattle.check.specs.Causes.{HoldsAt}
+use Rattle.checker.specs.declared.fault.TypeFault.{TypeFault}
+use Rattle.checker.specs.declared.fault.TypeFault.TheVariants.{Repeated}
+use Rattle.checker.specs.Causes.{HoldsAt}
 
 -- Entries are counted through: the classes, then all fields, then all methods.
 abbrev pub methods_of : Option APart → List (Name × Meth)

@@ -5,9 +5,9 @@ use Rattle.book.specs.declared.node.«Type».{«Type» as BType}
 use Rattle.cool.specs.Syntax.{Name}
 use Rattle.cool.specs.Book.{Meth, Book}
 use Rattle.cool.specs.Nodes.{in_method}
-use Rattle.check.specs.declared.fault.TypeFault.{TypeFault}
-use Rattle.check.specs.declared.fault.TypeFault.TheVariants.{Returned}
-use Rattle.check.specs.Checking.{same, then_com, type_in, com_in}
+use Rattle.checker.specs.declared.fault.TypeFault.{TypeFault}
+use Rattle.checker.specs.declared.fault.TypeFault.TheVariants.{Returned}
+use Rattle.checker.specs.Checking.{same, then_com, type_in, com_in}
 use Rattle.checked.specs.Holding.{methods_of}
 
 -- A method of class c: its command is well typed, and its returned expression has its result type.

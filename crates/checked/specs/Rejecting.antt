@@ -5,7 +5,7 @@ use Rattle.book.specs.Faults.{First, Clear, refusal}
 use Rattle.checked.specs.declared.base.CheckedBook.{CheckedBook}
 use Rattle.checked.specs.declared.rejection.Rejection.{Rejection}
 use Rattle.checked.specs.declared.rejection.Rejection.TheVariants.{File, Typing}
-use Rattle.check.specs.Causes.{refusal as typing_refusal}
+use Rattle.checker.specs.Causes.{refusal as typing_refusal}
 use Rattle.checked.specs.Accepting.{Checks}
 
 -- The number and the place under which a file is refused.

@@ -21,8 +21,8 @@ mod told;
 mod types;
 
 pub use base::CheckedBook;
-use check::fault::TypeFault;
-use check::place::Place;
+use checker::fault::TypeFault;
+use checker::place::Place;
 use rejection::Rejection;
 
 // The checked book of a read book that has a type, or why it has none. Every read book is clear of the file's faults,

@@ -9,8 +9,8 @@ use crate::base::Decoded;
 use crate::lookup::{class_at, methods_of};
 use crate::table::Method;
 use crate::types::{check_command, is_same, type_of};
-use check::fault::TypeFault;
-use check::place::Place;
+use checker::fault::TypeFault;
+use checker::place::Place;
 
 // A method of class `c`: its command, and its returned expression against its result type.
 fn check_method(book: &Decoded, c: u16, method: Method) -> Result<(), TypeFault>

@@ -2,7 +2,7 @@
 ghost use Rattle.std.specs.Prelude.{◌≡◌, ℕ, ◌<◌, map, Some, MatchOption, ◌≢◌};
 ghost use Rattle.std.specs.List.{slice_get};
 ghost use Rattle.cool.specs.Accepts.{NamesDistinct};
-ghost use Rattle.check.specs.declared.fault.TypeFault.TheVariants.{Repeated};
+ghost use Rattle.checker.specs.declared.fault.TypeFault.TheVariants.{Repeated};
 ghost use Rattle.checked.specs.Naming.{AllDistinct, StandsEarlier, MembersDistinct};
 ghost use Rattle.checked.specs.Holding.{Holds};
 ghost use Rattle.checked.specs.Checked.{Decodes, own_fields, own_methods, class_there, decoded_book};

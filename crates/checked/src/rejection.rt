@@ -3,7 +3,7 @@ ghost use Rattle.std.specs.Prelude.{◌≡◌};
 ghost use Rattle.checked.specs.Rejecting.{rejection};
 
 use book::fault::{Fault, Refusal};
-use check::fault::TypeFault;
+use checker::fault::TypeFault;
 
 // Why a file is not accepted: it is no book, or the book has no type.
 #[derive(Clone, Copy, PartialEq, Eq, Debug)]

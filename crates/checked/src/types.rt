@@ -2,14 +2,14 @@
 ghost use Rattle.std.specs.Prelude.{◌≡◌, ℕ, suc, ◌<◌, Ok};
 ghost use Rattle.book.specs.declared.node.«Type».TheVariants.{Int, Boolean, Class};
 ghost use Rattle.cool.specs.Book.{method_of};
-ghost use Rattle.check.specs.Checking.{same, an_int, a_boolean, of_class, of_type, member, inside, own_field, then_com, before, type_in, com_in};
+ghost use Rattle.checker.specs.Checking.{same, an_int, a_boolean, of_class, of_type, member, inside, own_field, then_com, before, type_in, com_in};
 ghost use Rattle.checked.specs.Checked.{decoded_book, where_of};
 
 use crate::base::Decoded;
 use crate::lookup::{field_type, method_in, node_at};
 use book::node::{Node, Type};
-use check::fault::TypeFault;
-use check::place::Place;
+use checker::fault::TypeFault;
+use checker::place::Place;
 
 pub(crate) fn is_same(t: Type, u: Type) -> bool
     ensures { result ≡ same t u }

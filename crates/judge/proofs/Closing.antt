@@ -8,8 +8,8 @@ use Rattle.input.specs.Day.{reading_count, wrong_input, book_bytes}
 use Rattle.cool.specs.Book.{Book}
 use Rattle.cool.specs.View.{view}
 use Rattle.checked.specs.declared.base.CheckedBook.{CheckedBook}
-use Rattle.check.specs.declared.fault.TypeFault.{TypeFault}
-use Rattle.check.specs.Causes.{number, place, refusal as typing_refusal}
+use Rattle.checker.specs.declared.fault.TypeFault.{TypeFault}
+use Rattle.checker.specs.Causes.{number, place, refusal as typing_refusal}
 use Rattle.checked.specs.Checked.{book_of, top_type}
 use Rattle.checked.specs.Accepting.{Checks}
 use Rattle.listing.specs.Text.{joined, labelled, Added, Adds}

@@ -4,8 +4,8 @@ use Rattle.book.specs.declared.node.«Type».{«Type» as BookType}
 use Rattle.book.specs.declared.node.«Type».TheVariants.{Int, Boolean, Class}
 use Rattle.cool.specs.Book.{Part, Book}
 use Rattle.cool.specs.View.{view}
-use Rattle.check.specs.declared.fault.TypeFault.{TypeFault}
-use Rattle.check.specs.Causes.{number, place}
+use Rattle.checker.specs.declared.fault.TypeFault.{TypeFault}
+use Rattle.checker.specs.Causes.{number, place}
 use Rattle.checked.specs.Holding.{Holds}
 use Rattle.checked.specs.Accepting.{HasType, HasNoType}
 use Rattle.listing.specs.Text.{joined, labelled, Added}

@@ -2,7 +2,7 @@ use Rattle.std.proofs.Common.{◌≡◌, ℕ, List, Ok, Err, Result, sym, subst}
 use Rattle.book.specs.Books.{bytes_of}
 use Rattle.book.specs.Faults.{Clear}
 use Rattle.checked.specs.declared.base.CheckedBook.{CheckedBook}
-use Rattle.check.specs.declared.fault.TypeFault.{TypeFault}
+use Rattle.checker.specs.declared.fault.TypeFault.{TypeFault}
 use Rattle.checked.specs.Accepting.{Checks}
 use Rattle.checked.proofs.accept.Goals as goal
 

@@ -2,7 +2,7 @@ use Rattle.std.proofs.Common.{suc, sym, ap, ◌∙◌}
 use Rattle.std.proofs.lemmas.Result.{err_from_is_err_and}
 use Rattle.book.specs.Books.{bytes_of}
 use Rattle.cool.specs.Nodes.{at_top}
-use Rattle.check.specs.Checking.{type_in}
+use Rattle.checker.specs.Checking.{type_in}
 use Rattle.checked.specs.Checked.{decoded_book}
 use Rattle.checked.proofs.Accepting.{repeated, untyped, top_untyped, accepted}
 use Rattle.checked.proofs.check.Goals as goal

@@ -1,5 +1,5 @@
 use Rattle.checked.specs.Checked.{decoded_book, where_of}
-use Rattle.check.proofs.Arms.{write_arm, sequence_arm, if_arm, while_arm}
+use Rattle.checker.proofs.Arms.{write_arm, sequence_arm, if_arm, while_arm}
 use Rattle.checked.proofs.types.+check_command.Goals as goal
 
 pub returns-in-FieldWrite : goal.returns-in-FieldWrite

@@ -1,5 +1,5 @@
 use Rattle.checked.specs.Checked.{decoded_book, where_of}
-use Rattle.check.proofs.Arms.{null_arm, read_arm, reading_arm, minus_arm, tests_arm, call_arm}
+use Rattle.checker.proofs.Arms.{null_arm, read_arm, reading_arm, minus_arm, tests_arm, call_arm}
 use Rattle.checked.proofs.types.+type_of.Goals as goal
 
 pub returns-in-Minus : goal.returns-in-Minus

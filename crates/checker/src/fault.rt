@@ -1,0 +1,39 @@
+// Why a book has no type.
+ghost use Rattle.std.specs.Prelude.{◌≡◌};
+ghost use Rattle.checker.specs.Causes.{refusal};
+
+use book::fault::Refusal;
+
+// Why a book has no type.
+#[derive(Clone, Copy, PartialEq, Eq, Debug)]
+pub enum TypeFault {
+    // two classes, or two fields or two methods of a class, by one name; at one of the entries
+    Repeated(usize),
+    // a part's type is not what the kind needs; this and the following at a node
+    Part(usize),
+    // no such method, no such field, or a field of another class
+    Member(usize),
+    // an argument or a written value of another type
+    Argument(usize),
+    // this or parameter at the top
+    Top(usize),
+    // the returned type differs, at the root
+    Returned(usize),
+}
+
+impl TypeFault {
+    // The number and the place under which the fault is refused.
+    pub fn refusal(self) -> Refusal
+        ensures { result ≡ refusal self }
+    {
+        let (number, place) = match self {
+            TypeFault::Repeated(entry) => (11, entry),
+            TypeFault::Part(node) => (12, node),
+            TypeFault::Member(node) => (13, node),
+            TypeFault::Argument(node) => (14, node),
+            TypeFault::Top(node) => (15, node),
+            TypeFault::Returned(node) => (16, node),
+        };
+        Refusal { number, place }
+    }
+}
