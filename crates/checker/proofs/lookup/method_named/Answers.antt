@@ -5,9 +5,9 @@ use Rattle.checker.specs.Checked.{meth}
 use Rattle.checker.proofs.Finding.{gone, here, later}
 use Rattle.checker.proofs.lookup.method_named.Goals as goal
 
-pub returns-in-default : goal.returns-in-default
-returns-in-default c =
-    gone (slice_get c.args.book.now.methods) (λ m. (m.name, meth m)) c.args.name (c.args.class.first_method + c.loop-i.i) (c.args.class.methods - c.loop-i.i) (c.args.class.methods - (c.loop-i.i + 1)) (omega arith) _ c.loop-i.invariant c.in-default.ensures
+pub returns-in_default : goal.returns-in_default
+returns-in_default c =
+    gone (slice_get c.args.book.now.methods) (λ m. (m.name, meth m)) c.args.name (c.args.class.first_method + c.loop-i.i) (c.args.class.methods - c.loop-i.i) (c.args.class.methods - (c.loop-i.i + 1)) (omega arith) _ c.loop-i.invariant c.in_default.ensures
 
 pub returns-then-name-method : goal.returns-then-name-method
 returns-then-name-method c =
