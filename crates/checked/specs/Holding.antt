@@ -29,9 +29,9 @@ method_entry B c i = B.classes + fields_before B B.classes + methods_before B c 
 -- A typing fault holds: two entries of a kind have one name, at the entry of one of them; all others at a node.
 pub data Holds (B : Book) : TypeFault → Type 0 where
   same_class : {c d : ℕ} {p q : APart}
-      → B.class c ≡ Some p → B.class d ≡ Some q → (c ≢ d) → p.called ≡ q.called → HoldsAt B (Repeated c)
+      → B.class c ≡ Some p → B.class d ≡ Some q → (c ≢ d) → p.called ≡ q.called → Holds B (Repeated c)
   same_field : {c i j : ℕ} {p : APart} {f : Name} {t u : BType}
-      → B.class c ≡ Some p → slice_get p.fields i ≡ Some (f, t) → slice_get p.fields j ≡ Some (f, u) → (i ≢ j) → HoldsAt B (Repeated (field_entry B c i))
+      → B.class c ≡ Some p → slice_get p.fields i ≡ Some (f, t) → slice_get p.fields j ≡ Some (f, u) → (i ≢ j) → Holds B (Repeated (field_entry B c i))
   same_method : {c i j : ℕ} {p : APart} {m : Name} {q r : Meth}
-      → B.class c ≡ Some p → slice_get p.methods i ≡ Some (m, q) → slice_get p.methods j ≡ Some (m, r) → (i ≢ j) → HoldsAt B (Repeated (method_entry B c i))
+      → B.class c ≡ Some p → slice_get p.methods i ≡ Some (m, q) → slice_get p.methods j ≡ Some (m, r) → (i ≢ j) → Holds B (Repeated (method_entry B c i))
   at_a_node : {e : TypeFault} → HoldsAt B e → Holds B e
