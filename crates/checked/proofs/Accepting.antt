@@ -84,6 +84,7 @@ module _ (B : Book) (F : Formed B) where
   not_repeated (same_class {c = c} {d = d} {p = p} {q = q} x y apart e) names = apart (names.classes c d p q x y e)
   not_repeated (same_field {c = c} {i = i} {j = j} {p = p} {f = f} {t = t} {u = u} x hi hj apart) names = apart (names.fields c p x i j f t u hi hj)
   not_repeated (same_method {c = c} {i = i} {j = j} {p = p} {m = m} {q = q} {r = r} x hi hj apart) names = apart (names.methods c p x i j m q r hi hj)
+  not_repeated {i = i} (at_a_node x) names = elim x [ ]
 
   module _ (names : NamesDistinct B) where
     method_found : (c i : ℕ) (m : Name) (q : Meth) → slice_get (methods_of (B.class c)) i ≡ Some (m, q) → method_of (B.class c) m ≡ Some q

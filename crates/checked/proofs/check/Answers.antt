@@ -16,25 +16,25 @@ returns-in-Some c =
           repeated c.decode-decoded.result (bytes_of c.args.book) c.decode-decoded.ensures.bytes right c.in-Some.entry (c.in-Some.ensures right);
     }
 
-pub returns-in-err-check-classes : goal.returns-in-err-check-classes
-returns-in-err-check-classes c =
-    let p = err_from_is_err_and c.from-residual.result c.from-residual.ensures.1 in
+pub returns-in_err-check_classes : goal.returns-in_err-check_classes
+returns-in_err-check_classes c =
+    let p = err_from_is_err_and c.from_residual.result c.from_residual.ensures.1 in
     rw (p.1, p.2) (record {
       bytes = tt;
       answer = λ clear.
           let right = c.decode-decoded.ensures.view clear in
-          untyped c.decode-decoded.result (bytes_of c.args.book) c.decode-decoded.ensures.bytes right _ (c.in-default.ensures right) c.in-err-check-classes.ensures;
+          untyped c.decode-decoded.result (bytes_of c.args.book) c.decode-decoded.ensures.bytes right _ (c.in_default.ensures right) c.in_err-check_classes.ensures;
     })
 
-pub returns-in-err-top : goal.returns-in-err-top
-returns-in-err-top c =
-    let p = err_from_is_err_and c.from-residual-in-err-top.result c.from-residual-in-err-top.ensures.1 in
+pub returns-in_err-top : goal.returns-in_err-top
+returns-in_err-top c =
+    let p = err_from_is_err_and c.from_residual-in_err-top.result c.from_residual-in_err-top.ensures.1 in
     rw (p.1, p.2) (record {
       bytes = tt;
       answer = λ clear.
           let right = c.decode-decoded.ensures.view clear in
           top_untyped c.decode-decoded.result (bytes_of c.args.book) c.decode-decoded.ensures.bytes right _
-          (ap (λ k. type_in (suc k) (decoded_book c.decode-decoded.result) at_top k) (sym c.from.ensures) ∙ (sym c.type-of.ensures ∙ c.in-err-top.was));
+          (ap (λ k. type_in (suc k) (decoded_book c.decode-decoded.result) at_top k) (sym c.from.ensures) ∙ (sym c.type_of.ensures ∙ c.in_err-top.was));
     })
 
 pub returns : goal.returns
@@ -43,6 +43,6 @@ returns c =
       bytes = c.decode-decoded.ensures.bytes;
       answer = λ clear.
           let right = c.decode-decoded.ensures.view clear in
-          accepted c.decode-decoded.result (bytes_of c.args.book) c.decode-decoded.ensures.bytes right _ (c.in-default.ensures right) c.in-ok-check-classes.ensures
-          (ap (λ k. type_in (suc k) (decoded_book c.decode-decoded.result) at_top k) (sym c.from.ensures) ∙ (sym c.type-of.ensures ∙ c.in-ok-top.was));
+          accepted c.decode-decoded.result (bytes_of c.args.book) c.decode-decoded.ensures.bytes right _ (c.in_default.ensures right) c.in_ok-check_classes.ensures
+          (ap (λ k. type_in (suc k) (decoded_book c.decode-decoded.result) at_top k) (sym c.from.ensures) ∙ (sym c.type_of.ensures ∙ c.in_ok-top.was));
     }

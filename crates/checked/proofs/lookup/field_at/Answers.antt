@@ -8,6 +8,6 @@ use Rattle.checked.proofs.lookup.field_at.Goals as goal
 
 pub returns : goal.returns
 returns c =
-    ap (option_map named_field) (c.nth-of.ensures ∙ ap (λ xs. slice_get xs c.args.i) c.fields-of.ensures.value)
-    ∙ (nth_map named_field (own_fields c.args.book.now c.in-ok-class.class) c.args.i
-    ∙ ap (λ o. slice_get (fields_of (option_map (part_of c.args.book.now) o)) c.args.i) (sym c.in-ok-class.was ∙ c.class-at.ensures))
+    ap (option_map named_field) (c.nth_of.ensures ∙ ap (λ xs. slice_get xs c.args.i) c.fields_of.ensures.value)
+    ∙ (nth_map named_field (own_fields c.args.book.now c.in_ok-class.class) c.args.i
+    ∙ ap (λ o. slice_get (fields_of (option_map (part_of c.args.book.now) o)) c.args.i) (sym c.in_ok-class.was ∙ c.class_at.ensures))

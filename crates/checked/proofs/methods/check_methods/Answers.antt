@@ -13,17 +13,17 @@ use Rattle.checked.proofs.methods.check_methods.Goals as goal
 typed_here : (xs : List Method) (i : ℕ) (d m : Method) → i < length xs → slice_get xs i ≡ Some m → (P : Method → Type 0) → P (get_or xs i d) → P m
 typed_here xs i d m low h P x = let here = slice_get-get_or xs i d low in let e : get_or xs i d ≡ m = cc in subst P e x
 
-pub returns-in-err-check-method : goal.returns-in-err-check-method
-returns-in-err-check-method c =
-    let p = err_from_is_err_and c.from-residual.result c.from-residual.ensures.1 in
-    rw (p.1, p.2) (c.loop-method.method-index, _, slice_get-get_or c.args.methods.now c.loop-method.method-index _ c.loop-method-test.true, sym c.check-method.ensures ∙ c.in-err-check-method.was)
+pub returns-in_err-check_method : goal.returns-in_err-check_method
+returns-in_err-check_method c =
+    let p = err_from_is_err_and c.from_residual.result c.from_residual.ensures.1 in
+    rw (p.1, p.2) (c.loop-method.method-index, _, slice_get-get_or c.args.methods.now c.loop-method.method-index _ c.loop-method-test.true, sym c.check_method.ensures ∙ c.in_err-check_method.was)
 
 pub loop-method-preserved : goal.loop-method-preserved
 loop-method-preserved c k m low h =
     elim (cases_eq k c.loop-method.method-index) [
       | inl same ↦
           typed_here c.args.methods.now c.loop-method.method-index _ m c.loop-method-test.true (rw same at h) (λ q. method_in (decoded_book c.args.book.now) c.args.c (meth q) ≡ Ok tt)
-          (sym c.check-method.ensures ∙ c.in-ok-check-method.was)
+          (sym c.check_method.ensures ∙ c.in_ok-check_method.was)
       | inr other ↦ c.loop-method.invariant k m (omega arith) h
     ]
 

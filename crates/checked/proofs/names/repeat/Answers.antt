@@ -8,7 +8,7 @@ use Rattle.checked.proofs.names.repeat.Goals as goal
 pub returns-in-Some : goal.returns-in-Some
 returns-in-Some g c =
     let p = c.in-Some.ensures in (
-      c.in-Some.-i,
+      c.in-Some._i,
       c.name.result,
       p.0,
       p.1,
@@ -21,7 +21,7 @@ loop-j-preserved g c k i n low under hi hk =
       | inl same ↦
           let here = nth_at g.T.Named.called c.args.entries.now c.loop-j.j c.index-entries-j.result c.loop-j-test.true c.index-entries-j.is in
           let e : n ≡ c.name.result = cc (c.name.ensures, here, hk, same) in
-          c.in-default.ensures i (omega arith) (hi ∙ ap Some e)
+          c.in_default.ensures i (omega arith) (hi ∙ ap Some e)
       | inr other ↦ c.loop-j.invariant k i n (omega arith) under hi hk
     ]
 

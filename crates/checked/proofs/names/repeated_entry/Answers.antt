@@ -10,10 +10,10 @@ returns-in-Some c right =
     (subst (λ xs. StandsEarlier (map (λ k. k.name) xs) c.in-Some.c) (c.stretch.ensures ∙ ap (λ n. take n c.args.book.now.classes) c.from.ensures) c.in-Some.ensures)
 
 pub loop-c-preserved : goal.loop-c-preserved
-loop-c-preserved c = below_more (λ k. Decodes c.args.book.now → MembersDistinct (decoded_book c.args.book.now) k) c.loop-c.c c.loop-c.invariant c.in-default-repeated-member.ensures
+loop-c-preserved c = below_more (λ k. Decodes c.args.book.now → MembersDistinct (decoded_book c.args.book.now) k) c.loop-c.c c.loop-c.invariant c.in_default-repeated_member.ensures
 
 pub returns : goal.returns
 returns c right =
     names_distinct c.args.book.now
-    (subst (λ xs. AllDistinct (map (λ k. k.name) xs)) (c.stretch.ensures ∙ ap (λ n. take n c.args.book.now.classes) c.from.ensures) c.in-default.ensures)
+    (subst (λ xs. AllDistinct (map (λ k. k.name) xs)) (c.stretch.ensures ∙ ap (λ n. take n c.args.book.now.classes) c.from.ensures) c.in_default.ensures)
     (λ k low. c.loop-c.invariant k (omega arith) right)

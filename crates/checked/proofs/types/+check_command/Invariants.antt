@@ -1,4 +1,4 @@
 use Rattle.checked.proofs.types.+check_command.Given as goal
 
-abbrev pub decreases-check-command : goal.decreases-check-command
-decreases-check-command l = l.k
+abbrev pub decreases-check_command : goal.decreases-check_command
+decreases-check_command l = l.k
