@@ -8,6 +8,7 @@ use Rattle.checker.specs.declared.fault.TypeFault.{TypeFault}
 use Rattle.checker.specs.Causes.{number, place}
 use Rattle.checked.specs.Holding.{Holds}
 use Rattle.checked.specs.Accepting.{HasType, HasNoType}
+use Rattle.listing.specs.Answer.{refused_line}
 use Rattle.listing.specs.Text.{joined, labelled, Added}
 
 -- The name of a class.

@@ -86,12 +86,8 @@ fn find_shown<S: ObjectStore, N: NumberRule>(
     }
 }
 
-<<<<<<< HEAD
-fn answer<S: ObjectStore, N: NumberRule>(
-=======
 // The found pile is emptied first.
 pub(crate) fn answer<S: ObjectStore, N: NumberRule>(
->>>>>>> 7614c5475764aff6e3640d48010c871d950196a8
     end: End,
     steps: u32,
     hand: Hand,
@@ -100,10 +96,6 @@ pub(crate) fn answer<S: ObjectStore, N: NumberRule>(
     found: &mut Pile<u32>,
     out: &mut [u8],
 ) -> Result<usize, SlipRefused>
-<<<<<<< HEAD
-    requires { items found.old ≡ [] }
-=======
->>>>>>> 7614c5475764aff6e3640d48010c871d950196a8
     ensures kept { Kept found.old found.new }
     ensures answer { Slips (record { book = book_of book.entry.now; top = top_type book.entry.now; rule = N.NumberRule.rule; store = store (S.ObjectStore.means objects.now); end = end; steps = steps; hand = hand }) (size found.old) out.old out.new result }
 {
@@ -114,27 +106,3 @@ pub(crate) fn answer<S: ObjectStore, N: NumberRule>(
     let shown = find_shown::<S, N>(end, hand, book, objects, found)?;
     print_within(end, steps, shown, book, objects, found, out)
 }
-<<<<<<< HEAD
-
-// Writes the slip of a run with this end, steps and hand, and answers its length. The found pile is emptied first, and left
-// empty whatever the answer.
-pub fn write_slip<S: ObjectStore, N: NumberRule>(
-    end: End,
-    steps: u32,
-    hand: Hand,
-    book: &CheckedBook,
-    objects: &S,
-    found: &mut Pile<u32>,
-    out: &mut [u8],
-) -> Result<usize, SlipRefused>
-    ensures kept { Kept found.old found.new }
-    ensures empty { items found.new ≡ [] }
-    ensures answer { Slips (record { book = book_of book.entry.now; top = top_type book.entry.now; rule = N.NumberRule.rule; store = store (S.ObjectStore.means objects.now); end = end; steps = steps; hand = hand }) (size found.old) out.old out.new result }
-{
-    found.clear();
-    let answer = answer::<S, N>(end, steps, hand, book, objects, found, out);
-    found.clear();
-    answer
-}
-=======
->>>>>>> 7614c5475764aff6e3640d48010c871d950196a8

@@ -5,8 +5,8 @@ use Rattle.judge.proofs.verdict.put_verdict.Goals as goal
 
 pub returns-in-Err : goal.returns-in-Err
 returns-in-Err c clear =
-    judged_refused (bytes_of c.args.book) c.in-Err.fault c.refusal-refusal.result (vec_items c.args.out.now) (vec_items c.put-refusal.new.out) c.put-refusal.result
-    c.refusal-refusal.ensures c.put-refusal.ensures (c.in-Err.ensures.answer clear)
+    judged_refused (bytes_of c.args.book) c.in-Err.fault c.refusal-refusal.result (vec_items c.args.out.now) (vec_items c.put_refusal.new.out) c.put_refusal.result
+    c.refusal-refusal.ensures c.put_refusal.ensures (c.in-Err.ensures.answer clear)
 
 pub returns-in-Ok : goal.returns-in-Ok
-returns-in-Ok c clear = judged_typed (bytes_of c.args.book) c.in-Ok.checked (vec_items c.args.out.now) (vec_items c.put-type-line.new.out) c.put-type-line.result c.put-type-line.ensures (c.in-Ok.ensures.answer clear)
+returns-in-Ok c clear = judged_typed (bytes_of c.args.book) c.in-Ok.checked (vec_items c.args.out.now) (vec_items c.put_type_line.new.out) c.put_type_line.result c.put_type_line.ensures (c.in-Ok.ensures.answer clear)

@@ -17,8 +17,8 @@ loop-value-init g c =
       going_none g.N.NumberRule.rule m (g.met.S.ObjectStore.sound c.args.objects.now) (fields_of ((book_of c.args.book.now).class c.args.class)) (values_of ((store m).look c.args.handle)) (items c.args.found.now) c.requires.there,
     )
 
-pub overflow-add-i : goal.overflow-add-i
-overflow-add-i g c =
+pub overflow_add-i : goal.overflow_add-i
+overflow_add-i g c =
     let m = g.S.ObjectStore.means c.args.objects.now in
     let few = few_cells m (g.met.S.ObjectStore.sound c.args.objects.now) c.args.handle in
     omega (arith, few, c.loop-value.invariant.1.low)
@@ -36,11 +36,11 @@ loop-value-preserved g c =
     let cell = cell_read (store m) c.args.handle c.loop-value.i (Some c.in-Some.value) c.in-Some.ensures in (
       kept_both c.loop-value.invariant.0 c.note.ensures.kept,
       going_more g.N.NumberRule.rule m (g.met.S.ObjectStore.sound c.args.objects.now) fs vs (items c.args.found.now) (items c.loop-value.found) (items c.note.new.found) c.loop-value.i
-          (size c.loop-value.found) c.in-Some.value c.loop-value.invariant.1 cell c.if-not-cell-fits.ensures (omega (arith, c.loop-value.invariant.0.same_size, c.requires.places)) c.note.ensures.after,
+          (size c.loop-value.found) c.in-Some.value c.loop-value.invariant.1 cell c.if-not-cell_fits.ensures (omega (arith, c.loop-value.invariant.0.same_size, c.requires.places)) c.note.ensures.after,
     )
 
-pub returns-then-not-cell-fits : goal.returns-then-not-cell-fits
-returns-then-not-cell-fits g c =
+pub returns-then-not-cell_fits : goal.returns-then-not-cell_fits
+returns-then-not-cell_fits g c =
     let m = g.S.ObjectStore.means c.args.objects.now in
     let vs = values_of ((store m).look c.args.handle) in
     let fs = fields_of ((book_of c.args.book.now).class c.args.class) in
@@ -48,7 +48,7 @@ returns-then-not-cell-fits g c =
     record {
       kept = c.loop-value.invariant.0;
       answer = going_fails g.N.NumberRule.rule m (g.met.S.ObjectStore.sound c.args.objects.now) fs vs (items c.args.found.now) (items c.loop-value.found) c.loop-value.i c.in-Some.value
-          c.loop-value.invariant.1 cell c.if-not-cell-fits.ensures;
+          c.loop-value.invariant.1 cell c.if-not-cell_fits.ensures;
       after = unlike;
     }
 
@@ -60,9 +60,9 @@ returns g c =
     let R = g.N.NumberRule.rule in
     let s = g.met.S.ObjectStore.sound c.args.objects.now in
     let old = items c.args.found.now in
-    let end = cell_read (store m) c.args.handle c.loop-value.i None c.in-default.ensures in
+    let end = cell_read (store m) c.args.handle c.loop-value.i None c.in_default.ensures in
     record {
       kept = c.loop-value.invariant.0;
-      answer = going_ends R m s fs vs old (items c.loop-value.found) c.loop-value.i c.is-past.result c.loop-value.invariant.1 end c.is-past.ensures;
+      answer = going_ends R m s fs vs old (items c.loop-value.found) c.loop-value.i c.is_past.result c.loop-value.invariant.1 end c.is_past.ensures;
       after = λ _. going_all R m s fs vs old (items c.loop-value.found) c.loop-value.i c.loop-value.invariant.1 end;
     }

@@ -6,24 +6,24 @@ use Rattle.slips.proofs.Deciding.{no_record_fits, no_class_fits, class_fits}
 use Rattle.slips.proofs.Exploring.{kept_same}
 use Rattle.slips.proofs.explore.look_through.Goals as goal
 
-pub returns-in-default : goal.returns-in-default
-returns-in-default g c = record {
+pub returns-in_default : goal.returns-in_default
+returns-in_default g c = record {
   kept = kept_same c.args.found.now;
-  answer = no_record_fits g.N.NumberRule.rule (store (g.S.ObjectStore.means c.args.objects.now)) (book_of c.args.book.now) c.args.handle c.in-default.ensures;
+  answer = no_record_fits g.N.NumberRule.rule (store (g.S.ObjectStore.means c.args.objects.now)) (book_of c.args.book.now) c.args.handle c.in_default.ensures;
   after = unlike;
 }
 
-pub returns-in-default-class : goal.returns-in-default-class
-returns-in-default-class g c = record {
+pub returns-in_default-class : goal.returns-in_default-class
+returns-in_default-class g c = record {
   kept = kept_same c.args.found.now;
-  answer = no_class_fits g.N.NumberRule.rule (store (g.S.ObjectStore.means c.args.objects.now)) (book_of c.args.book.now) c.args.handle c.in-Some.class c.in-Some.ensures c.in-default-class.ensures;
+  answer = no_class_fits g.N.NumberRule.rule (store (g.S.ObjectStore.means c.args.objects.now)) (book_of c.args.book.now) c.args.handle c.in-Some.class c.in-Some.ensures c.in_default-class.ensures;
   after = unlike;
 }
 
 pub returns : goal.returns
 returns g c = record {
-  kept = c.go-through.ensures.kept;
-  answer = c.go-through.ensures.answer
+  kept = c.go_through.ensures.kept;
+  answer = c.go_through.ensures.answer
       ∙ class_fits g.N.NumberRule.rule (store (g.S.ObjectStore.means c.args.objects.now)) (book_of c.args.book.now) c.args.handle c.in-Some.class _ c.in-Some.ensures c.in-Some-class.ensures;
-  after = c.go-through.ensures.after;
+  after = c.go_through.ensures.after;
 }

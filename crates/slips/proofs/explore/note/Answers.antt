@@ -10,8 +10,8 @@ returns-in-Some c = record {
       c.push.ensures.answer c.push.ensures.after;
 }
 
-pub returns-in-default : goal.returns-in-default
-returns-in-default c = record {
+pub returns-in_default : goal.returns-in_default
+returns-in_default c = record {
   kept = kept_same c.args.found.now;
-  after = λ _. noted_none (items c.args.found.now) c.args.value c.in-default.ensures;
+  after = λ _. noted_none (items c.args.found.now) c.args.value c.in_default.ensures;
 }

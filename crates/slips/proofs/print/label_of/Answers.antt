@@ -3,8 +3,8 @@ use Rattle.pile.specs.Pile.{items}
 use Rattle.slips.proofs.Labels.{label_here, label_none}
 use Rattle.slips.proofs.print.label_of.Goals as goal
 
-pub returns-then-stands-at : goal.returns-then-stands-at
-returns-then-stands-at c = label_here (items c.args.found.now) c.loop-i.i c.args.handle c.loop-i.invariant (sym c.if-stands-at.ensures)
+pub returns-then-stands_at : goal.returns-then-stands_at
+returns-then-stands_at c = label_here (items c.args.found.now) c.loop-i.i c.args.handle c.loop-i.invariant (sym c.if-stands_at.ensures)
 
 pub returns : goal.returns
 returns c =

@@ -4,8 +4,8 @@ use Rattle.slips.proofs.print.print.Goals as goal
 
 pub returns-in-Some : goal.returns-in-Some
 unfolding printed
-returns-in-Some g c = let e = c.in-Some.is in rw e (then_puts c.put-first.ensures c.put-value.ensures)
+returns-in-Some g c = let e = c.in-Some.is in rw e (then_puts c.put_first.ensures c.put_value.ensures)
 
-pub returns-in-default : goal.returns-in-default
+pub returns-in_default : goal.returns-in_default
 unfolding printed
-returns-in-default g c = let e = c.in-default.is in rw e (then_puts c.put-first.ensures nothing)
+returns-in_default g c = let e = c.in_default.is in rw e (then_puts c.put_first.ensures nothing)

@@ -13,8 +13,8 @@ use Rattle.slips.proofs.print.put_cells.Goals as goal
 pub loop-value-init : goal.loop-value-init
 loop-value-init g c = (each_none _, omega arith)
 
-pub overflow-add-i : goal.overflow-add-i
-overflow-add-i g c =
+pub overflow_add-i : goal.overflow_add-i
+overflow_add-i g c =
     let m = g.S.ObjectStore.means c.args.objects.now in
     let few = few_cells m (g.met.S.ObjectStore.sound c.args.objects.now) c.args.handle in
     omega (arith, few, c.loop-value.invariant.1)
@@ -28,7 +28,7 @@ pub loop-value-preserved : goal.loop-value-preserved
 loop-value-preserved g c =
     let S = store (g.S.ObjectStore.means c.args.objects.now) in
     let B = book_of c.args.book.now in (
-      cells_more B (items c.args.found.now) (fields_of (B.class c.args.class)) S c.args.handle c.loop-value.i c.in-Some.value c.loop-value.invariant.0 c.in-Some.ensures c.put-nth.ensures,
+      cells_more B (items c.args.found.now) (fields_of (B.class c.args.class)) S c.args.handle c.loop-value.i c.in-Some.value c.loop-value.invariant.0 c.in-Some.ensures c.put_nth.ensures,
       omega (arith, nth_some (values_of (S.look c.args.handle)) c.loop-value.i c.in-Some.value (cell_read S c.args.handle c.loop-value.i (Some c.in-Some.value) c.in-Some.ensures)),
     )
 
@@ -36,4 +36,4 @@ pub returns : goal.returns
 returns g c =
     let S = store (g.S.ObjectStore.means c.args.objects.now) in
     let B = book_of c.args.book.now in
-    cells_all B (items c.args.found.now) (fields_of (B.class c.args.class)) S c.args.handle c.loop-value.i c.in-default.ensures c.loop-value.invariant.1 c.loop-value.invariant.0
+    cells_all B (items c.args.found.now) (fields_of (B.class c.args.class)) S c.args.handle c.loop-value.i c.in_default.ensures c.loop-value.invariant.1 c.loop-value.invariant.0

@@ -8,4 +8,4 @@ pub returns : goal.returns
 unfolding cell_text
 returns c =
     let name = subst (λ t. Puts c.put.new.self c.put-2.new.self t) c.name.ensures c.put-2.ensures in
-    (c.put.ensures ▸ name ▸ c.put-3.ensures ▸ c.put-cell.ensures ▸ no_more).are
+    (c.put.ensures ▸ name ▸ c.put-3.ensures ▸ c.put_cell.ensures ▸ no_more).are

@@ -8,9 +8,9 @@ use Rattle.slips.proofs.print.put_nth.Goals as goal
 
 pub returns-in-Some : goal.returns-in-Some
 returns-in-Some c =
-    subst (λ o. Puts c.args.w.now c.put-field.new.w (cell_text (book_of c.args.book.now) (items c.args.found.now) o (Some c.args.value))) c.in-Some.ensures c.put-field.ensures
+    subst (λ o. Puts c.args.w.now c.put_field.new.w (cell_text (book_of c.args.book.now) (items c.args.found.now) o (Some c.args.value))) c.in-Some.ensures c.put_field.ensures
 
-pub returns-in-default : goal.returns-in-default
+pub returns-in_default : goal.returns-in_default
 unfolding cell_text
-returns-in-default c =
-    subst (λ o. Puts c.args.w.now c.args.w.now (cell_text (book_of c.args.book.now) (items c.args.found.now) o (Some c.args.value))) c.in-default.ensures nothing
+returns-in_default c =
+    subst (λ o. Puts c.args.w.now c.args.w.now (cell_text (book_of c.args.book.now) (items c.args.found.now) o (Some c.args.value))) c.in_default.ensures nothing

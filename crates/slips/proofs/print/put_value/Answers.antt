@@ -4,4 +4,4 @@ use Rattle.slips.proofs.print.put_value.Goals as goal
 
 pub returns : goal.returns
 unfolding value_lines
-returns g c = (c.put-words.ensures ▸ c.put.ensures ▸ c.put-records.ensures ▸ no_more).are
+returns g c = (c.put_words.ensures ▸ c.put.ensures ▸ c.put_records.ensures ▸ no_more).are

@@ -8,7 +8,7 @@ pub returns-in-Int : goal.returns-in-Int
 unfolding value_words
 returns-in-Int c =
     let f : SFits w32 c.in-Int.n = search rules in
-    let n = simp to_z-of_z at c.put-int.ensures in
+    let n = simp to_z-of_z at c.put_int.ensures in
     let e = c.in-Int.is in
     rw e (c.put.ensures ▸ n ▸ no_more).are
 
@@ -16,7 +16,7 @@ pub returns-in-Boolean : goal.returns-in-Boolean
 unfolding value_words
 returns-in-Boolean c =
     let e = c.in-Boolean.is in
-    let b = subst (λ t. Puts c.put-in-Boolean.new.self c.put-in-Boolean-2.new.self t) c.truth-word.ensures c.put-in-Boolean-2.ensures in
+    let b = subst (λ t. Puts c.put-in-Boolean.new.self c.put-in-Boolean-2.new.self t) c.truth_word.ensures c.put-in-Boolean-2.ensures in
     rw e (c.put-in-Boolean.ensures ▸ b ▸ no_more).are
 
 pub returns-in-Null : goal.returns-in-Null

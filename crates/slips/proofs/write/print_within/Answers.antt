@@ -2,9 +2,9 @@ use Rattle.std.proofs.Common.{length, refl, arith, rules}
 use Rattle.slips.proofs.Pieces.{measured, not_measured, printed_all}
 use Rattle.slips.proofs.write.print_within.Goals as goal
 
-pub returns-in-default : goal.returns-in-default
-returns-in-default g c =
-    let long = not_measured _ c.in-default.ensures in
+pub returns-in_default : goal.returns-in_default
+returns-in_default g c =
+    let long = not_measured _ c.in_default.ensures in
     (omega (arith, long), refl)
 
 pub returns-then-room-length : goal.returns-then-room-length

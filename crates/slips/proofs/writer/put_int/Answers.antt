@@ -5,7 +5,7 @@ use Rattle.slips.proofs.writer.put_int.Goals as goal
 
 pub returns : goal.returns
 returns c =
-    let e : c.unsigned-abs.result ≡ nat_abs c.args.z = search rules in
+    let e : c.unsigned_abs.result ≡ nat_abs c.args.z = search rules in
     let f : SFits w32 c.args.z = search rules in
-    let s = simp to_z-of_z at (subst (λ t. Puts c.args.w.now c.put.new.self t) c.sign-of.ensures c.put.ensures) in
-    with_sign c.args.z s (subst (λ n. Puts c.put.new.self c.put-number.new.w (decimal n)) e c.put-number.ensures)
+    let s = simp to_z-of_z at (subst (λ t. Puts c.args.w.now c.put.new.self t) c.sign_of.ensures c.put.ensures) in
+    with_sign c.args.z s (subst (λ n. Puts c.put.new.self c.put_number.new.w (decimal n)) e c.put_number.ensures)
