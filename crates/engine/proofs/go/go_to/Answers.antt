@@ -70,9 +70,9 @@ returns-in-Minus g c =
     let k = c.args.k in
     let part = c.in-Minus.part in
     record {
-      kept = c.put-on.ensures.kept;
+      kept = c.put_on.ensures.kept;
       does = λ day is.
           let at = λ (n : Node). step_go (G day) (Some n) k ε ρ S in
           let goes : at c.args.node ≡ put_on (G day) k part ε ρ S = (⊎_elim (λ q. ap at q.1) (⊎_elim (λ q. ap at q.1) (⊎_elim (λ q. ap at q.1) (⊎_elim (λ q. ap at q) (⊎_elim (λ q. ap at q.1) (⊎_elim (λ q. ap at q.2) (⊎_elim (λ q. ap at q) (⊎_elim (λ q. ap at q.2) (⊎_elim (λ q. ap at q.1) (⊎_elim (λ q. ap at q.2) (λ q. ap at q.1))))))))))) c.in-Minus.is in
-          carried (G day) (Go k) ε ρ S _ c.put-on.result (rows_of c.put-on.new.rows) S (ap (λ o. step_go (G day) o k ε ρ S) is ∙ goes) (c.put-on.ensures.does (book_of c.args.book.now) g.N.NumberRule.rule day S);
+          carried (G day) (Go k) ε ρ S _ c.put_on.result (rows_of c.put_on.new.rows) S (ap (λ o. step_go (G day) o k ε ρ S) is ∙ goes) (c.put_on.ensures.does (book_of c.args.book.now) g.N.NumberRule.rule day S);
     }

@@ -10,4 +10,4 @@ pub returns-in-IsNull : goal.returns-in-IsNull
 returns-in-IsNull g c = λ n ε s ρ.
     let S = store (g.S.ObjectStore.means c.args.objects.now) in
     let G = given (book_of c.args.book.now) g.N.NumberRule.rule c.args.readings.now n in
-    c.null-test.ensures G c.args.k ε S s ρ ∙ ap (λ x. step_have G (frame (Some x) First) c.args.k c.args.value ε ρ S) (sym c.in-IsNull.is)
+    c.null_test.ensures G c.args.k ε S s ρ ∙ ap (λ x. step_have G (frame (Some x) First) c.args.k c.args.value ε ρ S) (sym c.in-IsNull.is)

@@ -10,13 +10,13 @@ pub loop-i-preserved : goal.loop-i-preserved
 loop-i-preserved c =
     let fs = c.args.fields.now in
     let i = c.loop-i.i in
-    let v = c.first-value.result in
+    let v = c.first_value.result in
     let vs = first_values (map named_field fs) in
     let here : i < length c.loop-i.values = omega arith in
     let there : i < length vs = omega (arith, first_length fs) in
     take_more_set c.loop-i.values i v here
     ∙ ap (λ xs. xs ++ v ∷ []) c.loop-i.invariant
-    ∙ ap (λ w. take i vs ++ w ∷ []) (c.first-value.ensures ∙ sym (first_at fs i _ Null c.loop-i-test.true))
+    ∙ ap (λ w. take i vs ++ w ∷ []) (c.first_value.ensures ∙ sym (first_at fs i _ Null c.loop-i-test.true))
     ∙ sym (take_more vs i Null there)
 
 pub returns : goal.returns

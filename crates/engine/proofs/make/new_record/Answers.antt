@@ -9,11 +9,11 @@ use Rattle.engine.specs.Runs.{given}
 use Rattle.engine.proofs.Made.{no_class, no_room, makes_one}
 use Rattle.engine.proofs.make.new_record.Goals as goal
 
-pub returns-in-default : goal.returns-in-default
-returns-in-default g c = λ R day n ρ is.
+pub returns-in_default : goal.returns-in_default
+returns-in_default g c = λ R day n ρ is.
     let m = g.S.ObjectStore.means c.args.objects.now in
     let B = book_of c.args.book.now in
-    (no_class (given B R day n) c.args.k c.args.class c.args.around ρ is (store m) (sym c.in-default.ensures), refl, refl)
+    (no_class (given B R day n) c.args.k c.args.class c.args.around ρ is (store m) (sym c.in_default.ensures), refl, refl)
 
 pub returns-in-Some-make : goal.returns-in-Some-make
 returns-in-Some-make g c = λ R day n ρ is.

@@ -6,8 +6,8 @@ use Rattle.engine.proofs.Outcomes.{misfit_at}
 use Rattle.engine.proofs.Recorded.{no_cell, a_cell}
 use Rattle.engine.proofs.records.cell_of.Goals as goal
 
-pub returns-in-err-place : goal.returns-in-err-place
-returns-in-err-place g c = λ f. misfit_at f c.from-residual.ensures ∙ sym (no_cell (book_of c.args.book.now) c.args.name (λ i w. f w) ((store (g.S.ObjectStore.means c.args.objects.now)).look c.args.handle) (sym c.place-of.ensures ∙ c.in-err-place.was))
+pub returns-in_err-place : goal.returns-in_err-place
+returns-in_err-place g c = λ f. misfit_at f c.from_residual.ensures ∙ sym (no_cell (book_of c.args.book.now) c.args.name (λ i w. f w) ((store (g.S.ObjectStore.means c.args.objects.now)).look c.args.handle) (sym c.place_of.ensures ∙ c.in_err-place.was))
 
 pub returns : goal.returns
-returns g c = λ f. ap (λ o. or_misfit o f) c.value-at.ensures ∙ sym (a_cell (book_of c.args.book.now) c.args.name (λ i w. f w) (store (g.S.ObjectStore.means c.args.objects.now)) c.args.handle c.in-ok-place.place (sym c.place-of.ensures ∙ c.in-ok-place.was))
+returns g c = λ f. ap (λ o. or_misfit o f) c.value_at.ensures ∙ sym (a_cell (book_of c.args.book.now) c.args.name (λ i w. f w) (store (g.S.ObjectStore.means c.args.objects.now)) c.args.handle c.in_ok-place.place (sym c.place_of.ensures ∙ c.in_ok-place.was))

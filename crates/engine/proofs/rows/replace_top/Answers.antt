@@ -8,9 +8,9 @@ returns c =
     let xs = items c.args.rows.now in
     let x = c.args.row in
     record {
-      kept = c.replace-top.ensures.kept;
+      kept = c.replace_top.ensures.kept;
       after =
-          ap reverse c.replace-top.ensures.after
-          ∙ ap (λ b. reverse (cond b (set xs (length xs - 1) x) xs)) c.replace-top.ensures.answer
+          ap reverse c.replace_top.ensures.after
+          ∙ ap (λ b. reverse (cond b (set xs (length xs - 1) x) xs)) c.replace_top.ensures.answer
           ∙ replaced_is xs _ x refl;
     }

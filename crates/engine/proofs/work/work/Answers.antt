@@ -35,7 +35,7 @@ returns-in-Ends g c =
     let Q : ℕ → Type 0 = λ n. Steps (at n) x ε ρ S (came.Ends c.in-Ends.end) ρ' S' in
     let e = c.in-Ends.end in
     let n = c.args.run.now.steps in
-    let counts = c.end-with.ensures in
+    let counts = c.end_with.ensures in
     let W : Run → Type 0 = λ v. WorkedFrom G c.args.allowance s n (Ok tt) (state v.hand v.around ρ' S') v.steps v.end in
     record {
       kept = kept_on i.1 c.step.ensures.kept;
@@ -103,7 +103,7 @@ loop-used-preserved g c =
     let ρ' = rows_of c.step.new.rows in
     let S' = store (m c.step.new.objects) in
     let Q : ℕ → Type 0 = λ n. Steps (at n) x ε ρ S (came.Next c.in-Next.hand c.in-Next.around) ρ' S' in
-    let counts = c.go-on.ensures in
+    let counts = c.go_on.ensures in
     let W : Run → Type 0 = λ v. Lines G (c.loop-used.used + 1) s (state v.hand v.around ρ' S') in (
       omega arith,
       kept_on i.1 c.step.ensures.kept,
@@ -113,8 +113,8 @@ loop-used-preserved g c =
       subst W (sym counts) (more_lines G s c.loop-used.used x ε ρ S ρ' S' i.5 c.in-Next.hand c.in-Next.around (subst Q i.1.same_size c.in-Next.ensures.does)),
     )
 
-pub returns-then-is-finished : goal.returns-then-is-finished
-returns-then-is-finished g c =
+pub returns-then-is_finished : goal.returns-then-is_finished
+returns-then-is_finished g c =
     let m = g.S.ObjectStore.means in
     let p = c.args.rows.now in
     let i = c.loop-used.invariant in
@@ -128,11 +128,11 @@ returns-then-is-finished g c =
     record {
       kept = i.1;
       places = i.2;
-      works = was_finished i.5 (at_rest_finished G x ε ρ S (sym c.is-finished.ensures ∙ c.if-is-finished.true)) i.0 i.4;
+      works = was_finished i.5 (at_rest_finished G x ε ρ S (sym c.is_finished.ensures ∙ c.if-is_finished.true)) i.0 i.4;
     }
 
-pub returns-else-is-finished : goal.returns-else-is-finished
-returns-else-is-finished g c =
+pub returns-else-is_finished : goal.returns-else-is_finished
+returns-else-is_finished g c =
     let m = g.S.ObjectStore.means in
     let p = c.args.rows.now in
     let i = c.loop-used.invariant in
@@ -152,5 +152,5 @@ returns-else-is-finished g c =
     record {
       kept = i.1;
       places = i.2;
-      works = subst P (sym i.3) (used_up (subst L all i.5) (not_at_rest G x ε ρ S (sym c.is-finished.ensures ∙ c.if-is-finished.false)) (omega (arith, i.4)));
+      works = subst P (sym i.3) (used_up (subst L all i.5) (not_at_rest G x ε ρ S (sym c.is_finished.ensures ∙ c.if-is_finished.false)) (omega (arith, i.4)));
     }
