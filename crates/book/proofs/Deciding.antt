@@ -1,11 +1,11 @@
 -- Every file is clear of all faults or has one first fault.
-use Rattle.std.proofs.Common.{◌≡◌, ℕ, zero, suc, ◌+◌, ◌<◌, ◌≤◌, Bool, true, false, ◌&&◌, eqb, ltb, leb, ◌⊎◌, List, [], ◌∷◌, sym, refl, ap, ◌∙◌, inl, inr, arith}
+use Rattle.std.proofs.Common.{◌≡◌, ℕ, zero, suc, ◌+◌, ◌<◌, ◌≤◌, Bool, true, false, ◌&&◌, ltb, ◌⊎◌, List, [], ◌∷◌, sym, refl, ap, ◌∙◌, inl, inr, arith}
 use Rattle.std.proofs.lemmas.Bool.{cases_Bool, cases_order, cases_lt, ltb-true, le-ltb, ne_eqb, both_ways, and_left, and_parts, or_from, cond-false}
 use Rattle.book.specs.declared.fault.Fault.{Fault}
-use Rattle.book.specs.declared.fault.Fault.TheVariants.{Version, Limit, Offset, Name, Total, Entry, Node}
+use Rattle.book.specs.declared.fault.Fault.TheVariants.{Version}
 use Rattle.book.specs.Counting.{at_place}
 use Rattle.book.specs.Layout.{class_count, field_count, method_count, node_count, name_count}
-use Rattle.book.specs.Faults.{number, place, is_there, wrong_version, limits, offsets, totals, Before, First, Clear, Decided, FaultsDecide}
+use Rattle.book.specs.Faults.{number, place, is_there, wrong_version, limits, offsets, totals, First, Clear, FaultsDecide}
 use Rattle.book.proofs.Counts.{none_more}
 use Rattle.book.proofs.Ranks.{numbered, is_numbered, Free, free_start, free_next, free_all, first_here}
 

@@ -1,11 +1,11 @@
 -- Faults by their numbers: none below a number, and the first.
-use Rattle.std.proofs.Common.{◌≡◌, ℕ, zero, suc, ◌+◌, ◌<◌, ◌≤◌, Bool, true, false, ◌⊎◌, List, [], ◌∷◌, get_or, Some, None, Option, sym, refl, ap, ◌∙◌, subst, inl, inr, arith}
+use Rattle.std.proofs.Common.{◌≡◌, ℕ, ◌+◌, ◌<◌, ◌≤◌, Bool, true, false, List, [], ◌∷◌, get_or, Some, None, sym, refl, ap, ◌∙◌, subst, inl, inr, arith}
 use Rattle.std.proofs.lemmas.Bool.{cases_eq, ltb-false, eqb-true, not-false, or_parts}
 use Rattle.book.specs.declared.fault.Fault.{Fault}
 use Rattle.book.specs.declared.fault.Fault.TheVariants.{Version, Limit, Offset, Name, Total, Entry, Node}
 use Rattle.book.specs.Counting.{total, at_place, first_place, Lowest}
 use Rattle.book.specs.Layout.{node_count, method_count, method_nodes, top_count}
-use Rattle.book.specs.Faults.{number, place, is_there, wrong_version, limits, offsets, wrong_name, totals, wrong_entry, wrong_node, Before, First, Clear}
+use Rattle.book.specs.Faults.{number, place, is_there, wrong_version, limits, offsets, wrong_name, totals, wrong_entry, wrong_node, First, Clear}
 use Rattle.book.proofs.Counts.{ascends, table_lowest}
 
 -- the fault with a number, at a place

@@ -5,7 +5,6 @@ use Rattle.book.specs.declared.fault.Fault.TheVariants.{Version, Limit, Offset, 
 use Rattle.book.specs.declared.fault.Refusal.{Refusal}
 use Rattle.book.specs.declared.node.Part.{Part}
 use Rattle.book.specs.declared.node.Parts.{Parts}
-use Rattle.book.specs.declared.node.Raw.{Raw}
 use Rattle.book.specs.declared.node.Node.{Node as ANode}
 use Rattle.book.specs.Counting.{total, at_place}
 use Rattle.book.specs.Layout.{version, class_count, field_count, method_count, node_count, name_count, top_count, class_part, field_part, method_part, node_part, name_part, name_bytes, class_name, class_fields, class_methods, field_name, field_type, method_name, method_result, method_parameter, command_nodes, returned_nodes, method_nodes, raw_node}

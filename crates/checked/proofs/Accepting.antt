@@ -1,16 +1,14 @@
 -- A book is accepted exactly when it has a type.
-use Rattle.std.proofs.Common.{◌≡◌, ℕ, suc, ◌<◌, ◌≤◌, Bool, true, false, cond, ◌⊎◌, List, Some, None, Ok, Err, Option, Result, sym, refl, ap, ◌∙◌, subst, inl, inr, arith}
+use Rattle.std.proofs.Common.{◌≡◌, ℕ, suc, ◌<◌, Bool, true, false, cond, List, Some, None, Ok, Err, Option, Result, sym, refl, ap, ◌∙◌, subst, inl, inr, arith}
 use Rattle.std.specs.List.{slice_get}
 use Rattle.std.proofs.lemmas.Bool.{cases_lt}
 use Rattle.book.specs.declared.node.Node.{Node}
 use Rattle.book.specs.declared.node.«Type».{«Type» as BType}
-use Rattle.book.specs.declared.node.«Type».TheVariants.{Int, Boolean, Class}
-use Rattle.cool.specs.Syntax.{Name, Ty, int, boolean, class, Expr, CE, find}
-use Rattle.cool.specs.Book.{Meth, Part, Book, Formed, TypeThere, type_of, method_of}
-use Rattle.cool.specs.Nodes.{Where, at_top, in_method, where_held, Well, ◌∣◌⊩◌∶◌, n_literal, n_minus, n_less, n_equal, n_is_null, n_this, n_parameter, n_field, n_call, n_new, n_reading}
-use Rattle.cool.specs.Says.{Accepted}
+use Rattle.cool.specs.Syntax.{Name, int, boolean, class}
+use Rattle.cool.specs.Book.{Meth, Part, Book, Formed, TypeThere, method_of}
+use Rattle.cool.specs.Nodes.{at_top, in_method, where_held, Well, ◌∣◌⊩◌∶◌, n_literal, n_minus, n_less, n_equal, n_is_null, n_this, n_parameter, n_field, n_call, n_new, n_reading}
 use Rattle.cool.specs.Accepts.{NamesDistinct}
-use Rattle.cool.proofs.Base.{find_nth, none_or}
+use Rattle.cool.proofs.Base.{find_nth}
 use Rattle.cool.specs.View.{view}
 use Rattle.cool.proofs.Forming.{formed}
 use Rattle.cool.proofs.Stands.{method_part}
@@ -18,9 +16,9 @@ use Rattle.cool.proofs.Typing.{class_says}
 use Rattle.cool.proofs.Accepts.{distinct_find, accepts_exactly}
 use Rattle.checker.specs.declared.fault.TypeFault.{TypeFault}
 use Rattle.checker.specs.declared.fault.TypeFault.TheVariants.{Repeated, Returned}
-use Rattle.checker.specs.Causes.{place_of, other_result}
+use Rattle.checker.specs.Causes.{other_result}
 use Rattle.checked.specs.Holding.{methods_of, same_class, same_field, same_method, at_a_node, Holds}
-use Rattle.checker.specs.Checking.{same, then_com, type_in, com_in}
+use Rattle.checker.specs.Checking.{same, type_in, com_in}
 use Rattle.checked.specs.Methods.{gives_type, method_in, MethodsTyped, UntypedMethod}
 use Rattle.checked.specs.declared.base.Decoded.{Decoded}
 use Rattle.checked.specs.Checked.{decoded_bytes, decoded_book, Decodes}

@@ -7,7 +7,7 @@ use Rattle.book.specs.declared.entry.Class.{Class}
 use Rattle.book.specs.Counting.{total}
 use Rattle.book.specs.Layout.{class_count, field_count, class_fields, class_methods, class_at}
 use Rattle.cool.specs.Syntax.{Name}
-use Rattle.cool.specs.Book.{Part, Book, fields_of}
+use Rattle.cool.specs.Book.{Part, fields_of}
 use Rattle.cool.specs.View.{run, view}
 use Rattle.cool.specs.Accepts.{Distinct, NamesDistinct}
 use Rattle.cool.proofs.Clear.{fields_add_up}

@@ -1,5 +1,5 @@
 -- A decoded book means what its file's bytes are.
-use Rattle.std.proofs.Common.{◌≡◌, ℕ, zero, suc, ◌+◌, ◌-◌, ◌<◌, ◌≤◌, min, true, false, cond, ltb, List, [], ◌∷◌, map, length, take, drop, Some, None, Option, sym, refl, ap, ◌∙◌, subst, inl, inr, arith}
+use Rattle.std.proofs.Common.{◌≡◌, ℕ, zero, suc, ◌+◌, ◌-◌, ◌<◌, ◌≤◌, min, List, [], ◌∷◌, map, length, take, drop, Some, None, Option, sym, refl, ap, ◌∙◌, subst, inl, inr, arith}
 use mathlib.Core.Path.{fun_ext}
 use Rattle.std.specs.Option.{option_map}
 use Rattle.std.specs.List.{slice_get}
@@ -8,10 +8,10 @@ use Rattle.book.specs.declared.fault.Fault.TheVariants.{Limit}
 use Rattle.book.specs.declared.entry.Strip.{Strip}
 use Rattle.book.specs.declared.node.Node.{Node}
 use Rattle.book.specs.Counting.{total}
-use Rattle.book.specs.Layout.{class_count, field_count, method_count, node_count, top_count, counts_of, class_fields, class_methods, class_name, method_nodes, command_nodes, returned_nodes, class_at, field_at, raw_node}
+use Rattle.book.specs.Layout.{class_count, field_count, method_count, node_count, counts_of, class_fields, class_methods, class_name, method_nodes, command_nodes, returned_nodes, class_at, field_at, raw_node}
 use Rattle.book.specs.Kinds.{decoded}
 use Rattle.book.specs.Strips.{method_at, node_at, command_strip, returned_strip, top_strip}
-use Rattle.book.specs.Faults.{Clear, shape_right}
+use Rattle.book.specs.Faults.{Clear}
 use Rattle.cool.specs.View.{run, root_of, field, named_method as viewed_method, part, view}
 use Rattle.cool.specs.Book.{Part, Book}
 use Rattle.cool.proofs.Rows.{among}
@@ -19,7 +19,7 @@ use Rattle.book.proofs.Counts.{total_mono}
 use Rattle.cool.proofs.Clear.{fields_add_up, methods_add_up, nodes_add_up, node_right, shaped, stands}
 use Rattle.checked.specs.declared.base.Decoded.{Decoded}
 use Rattle.checked.specs.Tables.{among_first, Tabled, short_root, decoded_method}
-use Rattle.checked.specs.Checked.{decoded_bytes, named_field, named_method, own_fields, own_methods, part_of, class_there, decoded_book, Decodes}
+use Rattle.checked.specs.Checked.{decoded_bytes, named_field, named_method, part_of, class_there, decoded_book, Decodes}
 
 rest_at : {R : Type 0} (xs : List R) (i : ℕ) (x : R) → slice_get xs i ≡ Some x → drop i xs ≡ x ∷ drop (i + 1) xs
 rest_at [] i x h = let z : ◌≡◌ {A = ℕ} 0 1 = cc in absurd (omega arith)

@@ -1,5 +1,5 @@
 -- What checking answers.
-use Rattle.std.specs.Prelude.{◌≡◌, ℕ, ◌⊎◌, List, Some, Ok, Err, Result}
+use Rattle.std.specs.Prelude.{◌≡◌, ℕ, List, Some, Ok, Err, Result}
 use Rattle.book.specs.declared.node.«Type».{«Type» as BType}
 use Rattle.cool.specs.Syntax.{Ty, Expr, CE}
 use Rattle.cool.specs.Book.{Book, type_of}

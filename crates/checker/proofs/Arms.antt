@@ -1,5 +1,5 @@
 -- The answer at a node of each kind with parts, from what was found of the parts.
-use Rattle.std.proofs.Common.{◌≡◌, ℕ, suc, true, ◌⊎◌, Some, Ok, Err, Option, Result, sym, ap, ◌∙◌, inl, inr}
+use Rattle.std.proofs.Common.{◌≡◌, ℕ, suc, true, ◌⊎◌, Some, Ok, Result, sym, ap, ◌∙◌, inl, inr}
 use Rattle.book.specs.declared.node.Node.{Node}
 use Rattle.book.specs.declared.node.Node.TheVariants.{Minus, Less, Equal, IsNull, FieldRead, Call, Reading, FieldWrite, Sequence, If, While}
 use Rattle.book.specs.declared.node.«Type».{«Type» as BType}

@@ -1,6 +1,6 @@
 -- A refusal of the checker holds at its spot.
-use Rattle.std.proofs.Common.{◌≡◌, ℕ, zero, suc, ◌<◌, ◌≤◌, Bool, true, false, cond, ◌&&◌, eqb, ltb, ◌⊎◌, List, [], ◌∷◌, Some, None, Ok, Err, Option, Result, sym, refl, ap, ◌∙◌, subst, inl, inr, arith}
-use Rattle.std.proofs.lemmas.Bool.{eq-eqb, eqb-false, lt-ltb, and_from}
+use Rattle.std.proofs.Common.{◌≡◌, ℕ, zero, suc, ◌<◌, Bool, true, false, cond, eqb, List, [], ◌∷◌, Some, None, Ok, Err, Option, Result, sym, refl, ap, ◌∙◌, subst, inl, inr, arith}
+use Rattle.std.proofs.lemmas.Bool.{eqb-false}
 use Rattle.book.specs.declared.node.Node.{Node}
 use Rattle.book.specs.declared.node.Node.TheVariants.{Literal, Minus, Less, Equal, IsNull, This, Parameter, FieldRead, Call, New, Reading, FieldWrite, Sequence, If, While, Skip}
 use Rattle.book.specs.declared.node.«Type».{«Type» as BType}
@@ -9,9 +9,9 @@ use Rattle.cool.specs.Syntax.{Name, find}
 use Rattle.cool.specs.Book.{Book, Formed, ExpressionAt, CommandAt, is_expression, Each, expressions, commands, fields_of, method_of}
 use Rattle.cool.specs.Nodes.{Where, at_top, in_method, where_held, ◌∣◌⊩◌∶◌}
 use Rattle.checker.specs.declared.fault.TypeFault.{TypeFault}
-use Rattle.checker.specs.declared.fault.TypeFault.TheVariants.{Repeated, Part, Member, Argument, Top, Returned}
-use Rattle.checker.specs.Causes.{NoClass, Misplaced, minus_left, minus_right, less_left, less_right, equal_left, equal_right, null_operand, read_target, call_target, reading_index, write_target, if_test, while_test, NoField, place_of, HoldsAt, wrong_part, no_field_read, no_field_written, no_method, other_argument, other_value, this_at_top, parameter_at_top}
-use Rattle.checker.specs.Checking.{same, an_int, a_boolean, of_class, of_type, member, inside, own_field, then_com, before, at_node, type_by, com_by, type_in, com_in}
+use Rattle.checker.specs.declared.fault.TypeFault.TheVariants.{Part, Member, Argument, Top}
+use Rattle.checker.specs.Causes.{NoClass, minus_left, minus_right, less_left, less_right, equal_left, equal_right, null_operand, read_target, call_target, reading_index, write_target, if_test, while_test, NoField, place_of, HoldsAt, wrong_part, no_field_read, no_field_written, no_method, other_argument, other_value, this_at_top, parameter_at_top}
+use Rattle.checker.specs.Checking.{same, an_int, a_boolean, of_class, of_type, member, inside, own_field, then_com, type_by, com_by, type_in, com_in}
 use Rattle.checker.proofs.Inverting.{own_field_ok}
 use Rattle.checker.proofs.Sound.{type_sound}
 use Rattle.checker.proofs.Complete.{at_node_by, formed_before}

@@ -1,15 +1,15 @@
 -- What the rules derive the checker finds.
-use Rattle.std.proofs.Common.{◌≡◌, ℕ, zero, suc, ◌<◌, Bool, true, false, cond, ◌&&◌, eqb, ltb, Some, None, Ok, Err, Option, Result, sym, refl, ap, ◌∙◌, subst, arith}
+use Rattle.std.proofs.Common.{◌≡◌, ℕ, zero, suc, ◌<◌, true, ◌&&◌, eqb, ltb, Some, Ok, Option, Result, refl, ◌∙◌, arith}
 use Rattle.std.proofs.lemmas.Bool.{eq-eqb, lt-ltb, and_from}
 use Rattle.book.specs.declared.node.Node.{Node}
 use Rattle.book.specs.declared.node.Node.TheVariants.{Literal, Minus, Less, Equal, IsNull, This, Parameter, FieldRead, Call, New, Reading, FieldWrite, Sequence, If, While, Skip}
 use Rattle.book.specs.declared.node.«Type».{«Type» as BType}
 use Rattle.book.specs.declared.node.«Type».TheVariants.{Int, Boolean, Class}
 use Rattle.cool.specs.Syntax.{Name, find}
-use Rattle.cool.specs.Book.{Book, Formed, fields_of, method_of}
-use Rattle.cool.specs.Nodes.{Where, at_top, in_method, ◌∣◌⊩◌∶◌, ◌∣◌⊩◌∶com, n_literal, n_minus, n_less, n_equal, n_is_null, n_this, n_parameter, n_field, n_call, n_new, n_reading, n_assign, n_seq, n_if, n_while, n_skip}
+use Rattle.cool.specs.Book.{Book, Formed, fields_of}
+use Rattle.cool.specs.Nodes.{Where, in_method, ◌∣◌⊩◌∶◌, ◌∣◌⊩◌∶com, n_literal, n_minus, n_less, n_equal, n_is_null, n_this, n_parameter, n_field, n_call, n_new, n_reading, n_assign, n_seq, n_if, n_while, n_skip}
 use Rattle.checker.specs.declared.fault.TypeFault.{TypeFault}
-use Rattle.checker.specs.Checking.{same, an_int, a_boolean, of_class, of_type, member, inside, own_field, then_com, before, at_node, type_by, com_by, type_in, com_in}
+use Rattle.checker.specs.Checking.{same, an_int, a_boolean, of_class, of_type, member, inside, own_field, then_com, before, at_node, type_in, com_in}
 
 pub same_self : (u : BType) → same u u ≡ true
 same_self Int = refl

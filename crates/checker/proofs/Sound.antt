@@ -1,12 +1,11 @@
 -- What the checker finds is what the rules derive.
-use Rattle.std.proofs.Common.{◌≡◌, ℕ, zero, suc, Some, None, Ok, Err, Option, Result, sym, refl, ap, ◌∙◌, subst}
+use Rattle.std.proofs.Common.{◌≡◌, ℕ, zero, suc, Some, Ok, Result, sym, refl, subst}
 use Rattle.book.specs.declared.node.Node.{Node}
 use Rattle.book.specs.declared.node.Node.TheVariants.{Literal, Minus, Less, Equal, IsNull, This, Parameter, FieldRead, Call, New, Reading, FieldWrite, Sequence, If, While, Skip}
 use Rattle.book.specs.declared.node.«Type».{«Type» as BType}
 use Rattle.book.specs.declared.node.«Type».TheVariants.{Int, Boolean, Class}
-use Rattle.cool.specs.Syntax.{Name, find}
 use Rattle.cool.specs.Book.{Book, Formed, ClassThere}
-use Rattle.cool.specs.Nodes.{Where, at_top, in_method, ◌∣◌⊩◌∶◌, ◌∣◌⊩◌∶com, n_literal, n_minus, n_less, n_equal, n_is_null, n_this, n_parameter, n_field, n_call, n_new, n_reading, n_assign, n_seq, n_if, n_while, n_skip}
+use Rattle.cool.specs.Nodes.{Where, ◌∣◌⊩◌∶◌, ◌∣◌⊩◌∶com, n_literal, n_minus, n_less, n_equal, n_is_null, n_this, n_parameter, n_field, n_call, n_new, n_reading, n_assign, n_seq, n_if, n_while, n_skip}
 use Rattle.checker.specs.declared.fault.TypeFault.{TypeFault}
 use Rattle.checker.specs.Checking.{type_by, com_by, type_in, com_in}
 use Rattle.checker.proofs.Inverting.{clash, an_int_ok, a_boolean_ok, of_class_ok, of_type_ok, member_ok, inside_ok, own_field_ok, then_com_ok, at_node_ok}

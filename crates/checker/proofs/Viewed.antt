@@ -1,8 +1,7 @@
 -- A checked book means what its file's bytes are.
-use Rattle.std.proofs.Common.{◌≡◌, ℕ, zero, suc, ◌+◌, ◌<◌, ◌≤◌, true, false, cond, ltb, List, [], ◌∷◌, length, Some, None, Option, sym, refl, ap, ◌∙◌, subst, inl, inr, arith}
+use Rattle.std.proofs.Common.{◌≡◌, ℕ, zero, suc, ◌+◌, ◌<◌, ◌≤◌, true, false, ltb, ◌∷◌, length, Some, Option, sym, refl, ap, ◌∙◌, subst, inl, inr, arith}
 use mathlib.Core.Path.{fun_ext}
 use Rattle.std.specs.Option.{option_map}
-use Rattle.std.specs.List.{slice_get}
 use Rattle.std.proofs.lemmas.Bool.{cases_lt, lt-ltb, le-ltb, ltb-false, or_parts, cond-true, cond-false}
 use Rattle.book.specs.declared.fault.Fault.TheVariants.{Limit}
 use Rattle.book.specs.Counting.{total}
@@ -10,7 +9,6 @@ use Rattle.book.specs.Layout.{class_count, field_count, method_count, class_fiel
 use Rattle.book.specs.Strips.{method_at}
 use Rattle.book.specs.Faults.{Clear}
 use Rattle.cool.specs.View.{run, field, named_method as viewed_method, part, view}
-use Rattle.cool.specs.Book.{Part, Book}
 use Rattle.cool.proofs.Rows.{among}
 use Rattle.cool.proofs.Clear.{fields_add_up, methods_add_up}
 use Rattle.checker.specs.declared.base.CheckedBook.{CheckedBook}

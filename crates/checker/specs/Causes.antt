@@ -1,5 +1,5 @@
 -- What a typing refusal says of a book, and when that holds.
-use Rattle.std.specs.Prelude.{◌≡◌, ℕ, ◌⊎◌, Some, None, Option, ◌≢◌}
+use Rattle.std.specs.Prelude.{◌≡◌, ℕ, ◌⊎◌, Some, None, ◌≢◌}
 use Rattle.book.specs.declared.fault.Refusal.{Refusal}
 use Rattle.book.specs.declared.node.Node.{Node}
 use Rattle.book.specs.declared.node.Node.TheVariants.{Minus, Less, Equal, IsNull, This, Parameter, FieldRead, Call, Reading, FieldWrite, If, While}

@@ -6,7 +6,7 @@ use Rattle.book.specs.declared.node.Node.TheVariants.{Literal, Minus, Less, Equa
 use Rattle.book.specs.declared.node.«Type».{«Type» as BType}
 use Rattle.book.specs.declared.node.«Type».TheVariants.{Int, Boolean, Class}
 use Rattle.cool.specs.Syntax.{Name, find}
-use Rattle.cool.specs.Book.{Meth, Book, ExpressionAt, CommandAt, fields_of, method_of}
+use Rattle.cool.specs.Book.{Book, ExpressionAt, CommandAt, fields_of, method_of}
 use Rattle.cool.specs.Nodes.{Where, at_top, in_method, ◌∣◌⊩◌∶◌, ◌∣◌⊩◌∶com}
 use Rattle.checker.specs.declared.fault.TypeFault.{TypeFault}
 use Rattle.checker.specs.declared.fault.TypeFault.TheVariants.{Part, Member, Argument, Top}

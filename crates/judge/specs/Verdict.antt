@@ -9,7 +9,7 @@ use Rattle.checker.specs.Causes.{number, place}
 use Rattle.checked.specs.Holding.{Holds}
 use Rattle.checked.specs.Accepting.{HasType, HasNoType}
 use Rattle.listing.specs.Answer.{refused_line}
-use Rattle.listing.specs.Text.{joined, labelled, Added}
+use Rattle.listing.specs.Text.{joined, Added}
 
 -- The name of a class.
 abbrev pub class_called : Book → Option Part → List ℕ

@@ -7,7 +7,6 @@ use Rattle.book.specs.declared.node.Node.TheVariants.{Literal, Minus, Less, Equa
 use Rattle.book.specs.declared.node.Type.{«Type» as BType}
 use Rattle.book.specs.declared.node.Type.TheVariants as T
 use Rattle.store.specs.declared.Value.{Value}
-use Rattle.store.specs.declared.Value.TheVariants.{Int, Boolean}
 use Rattle.store.specs.Meaning.{Rec, Store, room, added, written, with_cell}
 use Rattle.cool.specs.Syntax.{Name}
 use Rattle.cool.specs.Dynamic.{reading_at}

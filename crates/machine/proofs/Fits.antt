@@ -1,5 +1,5 @@
 -- Every value fits its place and goes on fitting; a fitting state is never a misfit.
-use Rattle.std.proofs.Common.{◌≡◌, ℕ, zero, suc, Bool, true, false, cond, ◌&&◌, T, eqb, ◌⊎◌, List, [], ◌∷◌, length, set, ℤ, pos, Some, None, Option, sym, refl, ap, ◌∙◌, inl, inr, arith}
+use Rattle.std.proofs.Common.{◌≡◌, ℕ, suc, Bool, true, false, cond, ◌&&◌, T, eqb, ◌⊎◌, List, [], ◌∷◌, length, set, ℤ, pos, Some, None, Option, sym, refl, ap, ◌∙◌, inl, inr, arith}
 use lib.Signed.{le_z}
 use Rattle.std.specs.List.{slice_get}
 use Rattle.book.specs.declared.node.Node.{Node}

@@ -6,7 +6,7 @@ use Rattle.book.specs.declared.node.Type.{«Type» as BType}
 use Rattle.book.specs.declared.node.Type.TheVariants as T
 use Rattle.store.specs.declared.Value.{Value}
 use Rattle.store.specs.Meaning.{Rec, Store, added, written, with_cell}
-use Rattle.cool.specs.Syntax.{Name, Ty, int, boolean, class, FE, find, ◌⟨◌⟼◌⟩}
+use Rattle.cool.specs.Syntax.{Name, Ty, int, boolean, FE, find, ◌⟨◌⟼◌⟩}
 use Rattle.cool.specs.Dynamic.{Record, object, default, Default, with_field}
 use Rattle.cool.specs.Book.{Part, Book, type_of, place}
 use Rattle.cool.proofs.Base.{no_some, eqb_eq, same_function}

@@ -1,5 +1,5 @@
 -- The specimens, line by line.
-use Rattle.std.proofs.Common.{◌≡◌, ℕ, zero, suc, ◌≤◌, Bool, true, false, ◌&&◌, leb, List, [], ◌∷◌, length, ℤ, pos, negsuc, Some, None, refl, arith}
+use Rattle.std.proofs.Common.{◌≡◌, ℕ, suc, ◌≤◌, Bool, true, false, ◌&&◌, leb, List, [], ◌∷◌, length, ℤ, pos, negsuc, Some, None, refl, arith}
 use Rattle.book.specs.declared.node.Node.TheVariants.{Literal, Minus, New}
 use Rattle.std.specs.Int.{int_wrap}
 use Rattle.numbers.specs.Rule.{Rule, within, between, least32, most32}

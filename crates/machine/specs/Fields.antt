@@ -1,5 +1,5 @@
 -- Records by place, as the store has them, and by field name, as COOL's heaps have them.
-use Rattle.std.specs.Prelude.{ℕ, suc, false, cond, eqb, List, [], ◌∷◌, pos, Some, None, Option}
+use Rattle.std.specs.Prelude.{false, List, [], ◌∷◌, pos, Some, None, Option}
 use Rattle.std.specs.Option.{option_map}
 use Rattle.book.specs.declared.node.Type.{«Type» as BType}
 use Rattle.book.specs.declared.node.Type.TheVariants as T

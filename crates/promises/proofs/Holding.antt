@@ -1,19 +1,14 @@
 -- The promises hold after every list of calls.
-use Rattle.std.proofs.Common.{◌≡◌, ℕ, zero, suc, ◌<◌, ◌≤◌, ◌⊎◌, List, [], ◌∷◌, ◌++◌, length, take, drop, set, Some, None, Ok, Err, sym, refl, ap, ◌∙◌, subst, inl, inr, arith}
+use Rattle.std.proofs.Common.{◌≡◌, ℕ, zero, suc, List, [], ◌∷◌, ◌++◌, length, take, drop, set, Some, Ok, sym, refl, ap, ◌∙◌, subst, inl, inr, arith}
 use Rattle.std.specs.List.{slice_get}
 use Rattle.std.proofs.lemmas.List.{take_at}
 use Rattle.book.specs.declared.node.Type.{«Type» as BType}
 use Rattle.store.specs.declared.Value.{Value}
 use Rattle.numbers.specs.Rule.{Rule}
 use Rattle.store.specs.Meaning.{Store, store}
-use Rattle.cool.specs.Syntax.{Ty, Expr, CE}
-use Rattle.cool.specs.Dynamic.{Heap}
 use Rattle.cool.specs.Book.{Book, type_of}
-use Rattle.cool.specs.Nodes.{Well}
-use Rattle.cool.specs.Says.{Accepted}
 use Rattle.cool.proofs.Programs.{accepted}
 use Rattle.cool.proofs.Says.{types_one_to_one}
-use Rattle.checked.specs.Accepting.{HasType}
 use Rattle.machine.specs.declared.state.Around.{Around}
 use Rattle.machine.specs.declared.state.Row.{Row}
 use Rattle.machine.specs.declared.state.Hand.{Hand}
@@ -22,22 +17,19 @@ use Rattle.machine.specs.Ends.{end_number, end_node}
 use Rattle.machine.specs.Fields.{heap_of}
 use Rattle.machine.specs.Fit.{Fits, RecordsFit, Fitting, fitting}
 use Rattle.machine.specs.Likeness.{◌≅◌, by_naming, alike}
-use Rattle.machine.specs.Machine.{State, state, store_of, Reached}
+use Rattle.machine.specs.Machine.{state}
 use Rattle.machine.specs.Runs.{Worked, Finished, Ended, Unfinished, OneOf}
-use Rattle.machine.specs.Laws.{Derived, ComesTo}
-use Rattle.machine.proofs.Fits.{reached_fits, done_with, DoneWith}
+use Rattle.machine.specs.Laws.{Derived}
+use Rattle.machine.proofs.Fits.{reached_fits, done_with}
 use Rattle.machine.proofs.Laws as law
-use Rattle.slips.specs.declared.refused.SlipRefused.TheVariants as S
 use Rattle.slips.specs.Answer.{Shows}
 use Rattle.slips.specs.Slip.{slip as slip_bytes}
 use Rattle.slips.proofs.Alike.{same_slip}
 use Rattle.engine.specs.declared.question.Told.{Told}
-use Rattle.engine.specs.declared.refused.Refused.TheVariants as R
-use Rattle.engine.specs.Runs.{state_of}
 use Rattle.engine.specs.Calls.{Begins}
 use Rattle.engine.specs.Calls as call
-use Rattle.promises.specs.Lists.{Own, own_given, Standing, standing, Call, advance, question, settle, slip, Does, advances, advances_elsewhere, questions, settles, slips, Event, begun, not_begun, on, After, nothing_yet, begins, begin_refused, calls}
-use Rattle.promises.specs.Promises.{given_to, stands_in, Gave23, by_advance, by_slip, IsWorked, KeptOf, Alike, defined_slip, SameAnswers, IsDerived, IsReached, EveryListOfCalls}
+use Rattle.promises.specs.Lists.{Own, own_given, Standing, Call, question, slip, Does, advances, advances_elsewhere, questions, settles, slips, Event, on, After, nothing_yet, begins, begin_refused, calls}
+use Rattle.promises.specs.Promises.{given_to, stands_in, Gave23, by_advance, by_slip, KeptOf, Alike, defined_slip, SameAnswers, IsDerived, IsReached, EveryListOfCalls}
 use Rattle.promises.proofs.Working.{same_end, was_reached, was_done}
 use Rattle.promises.proofs.Showing.{shows}
 use Rattle.promises.proofs.Keeping.{Good, formed_of, well_of, begins_good, does_good, advance_good, elsewhere_good}

@@ -1,34 +1,29 @@
 -- Every call keeps a run as promised.
-use Rattle.std.proofs.Common.{◌≡◌, ℕ, zero, suc, ◌+◌, ◌<◌, ◌≤◌, Bool, true, false, cond, ◌&&◌, eqb, ltb, leb, ◌⊎◌, List, [], ◌∷◌, ◌++◌, reverse, length, set, Some, None, Ok, Err, Result, sym, refl, ap, ◌∙◌, subst, inl, inr, arith}
-use Rattle.std.specs.List.{slice_get}
-use Rattle.std.proofs.lemmas.Bool.{and_parts, eqb-true, leb-true, cases_eq, cases_lt}
+use Rattle.std.proofs.Common.{◌≡◌, ℕ, ◌+◌, ◌≤◌, true, false, ◌⊎◌, List, [], ◌∷◌, reverse, length, Some, None, Ok, Err, sym, refl, ap, ◌∙◌, subst, inl, inr, arith}
+use Rattle.std.proofs.lemmas.Bool.{and_parts, eqb-true, leb-true}
 use Rattle.book.specs.declared.node.Type.{«Type» as BType}
 use Rattle.pile.specs.declared.base.Pile.{Pile}
 use Rattle.pile.specs.Pile.{items, size}
-use Rattle.store.specs.Meaning.{Rec, Store, Means, Sound, store, nothing, empty, store_empty, allowed}
+use Rattle.store.specs.Meaning.{Means, Sound, store, nothing, empty, store_empty}
 use Rattle.cool.specs.Book.{Book, Formed, type_of}
 use Rattle.cool.specs.Nodes.{Well}
-use Rattle.cool.specs.Says.{Accepted}
 use Rattle.cool.proofs.Programs.{accepted}
-use Rattle.cool.proofs.Stands.{Agreed}
 use Rattle.cool.proofs.Typing.{well_typed}
 use Rattle.checked.specs.Accepting.{HasType}
-use Rattle.machine.specs.declared.state.End.{End}
 use Rattle.machine.specs.declared.state.End.TheVariants.{Unfinished}
 use Rattle.machine.specs.declared.state.Row.{Row}
 use Rattle.machine.specs.declared.state.Hand.TheVariants.{Go}
-use Rattle.machine.specs.Ends.{end_number, end_node}
-use Rattle.machine.specs.Machine.{State, state, store_of, around, Given, step, finished, start, Reached, at_start}
-use Rattle.machine.specs.Runs.{Worked, used_up}
+use Rattle.machine.specs.Ends.{end_number}
+use Rattle.machine.specs.Machine.{state, around, step, finished, start, at_start}
+use Rattle.machine.specs.Runs.{used_up}
 use Rattle.machine.proofs.Fits.{reached_fits, done_with}
-use Rattle.slips.specs.declared.refused.SlipRefused.{SlipRefused}
 use Rattle.engine.specs.declared.base.Run.{Run}
 use Rattle.engine.specs.declared.refused.Refused.TheVariants.{Misfit}
-use Rattle.engine.specs.Runs.{state_of, rows_of}
-use Rattle.engine.specs.Calls.{Answer, begun, fresh, Begins, begins, Advances, goes_too_far, other_rows, stays, works, WorkedFrom}
-use Rattle.promises.specs.Lists.{Own, given_with, own_given, Standing, standing, Call, advance, question, settle, slip, accepted as counted, Does, advances, advances_elsewhere, questions, settles, slips}
-use Rattle.promises.specs.Promises.{given_to, stands_in, IsWorked}
-use Rattle.promises.proofs.Working.{answers, unfinished, not_ended, stays_ended, was_reached, worked_on, misfits_nowhere}
+use Rattle.engine.specs.Runs.{state_of}
+use Rattle.engine.specs.Calls.{Answer, begun, fresh, Advances, goes_too_far, other_rows, stays, works, WorkedFrom}
+use Rattle.promises.specs.Lists.{Own, given_with, own_given, Standing, standing, Call, accepted as counted, Does, advances, advances_elsewhere, questions, settles, slips}
+use Rattle.promises.specs.Promises.{IsWorked}
+use Rattle.promises.proofs.Working.{answers, unfinished, not_ended, stays_ended, worked_on, misfits_nowhere}
 
 -- what is kept of each run: its book is accepted, its store has few records, and it is where the step rules lead
 pub record Good (s : Standing) : Type 0 where

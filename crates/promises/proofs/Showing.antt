@@ -1,5 +1,5 @@
 -- What a run shows on its slip fits.
-use Rattle.std.proofs.Common.{◌≡◌, ℕ, zero, suc, List, [], ◌∷◌, Some, sym, refl, ap, ◌∙◌, subst, arith}
+use Rattle.std.proofs.Common.{◌≡◌, ℕ, zero, suc, List, Some, refl, subst, arith}
 use Rattle.std.specs.List.{slice_get}
 use Rattle.book.specs.declared.node.Type.{«Type» as BType}
 use Rattle.numbers.specs.Rule.{Rule}
@@ -7,15 +7,12 @@ use Rattle.store.specs.declared.Value.{Value}
 use Rattle.store.specs.declared.Value.TheVariants.{Handle}
 use Rattle.store.specs.Meaning.{Rec, Store}
 use Rattle.cool.specs.Syntax.{Name}
-use Rattle.cool.specs.Book.{Part, Book}
-use Rattle.machine.specs.declared.state.Around.{Around}
+use Rattle.cool.specs.Book.{Book}
 use Rattle.machine.specs.declared.state.Hand.{Hand}
 use Rattle.machine.specs.declared.state.Hand.TheVariants.{Go, Have, Done}
 use Rattle.machine.specs.declared.state.End.{End}
 use Rattle.machine.specs.declared.state.End.TheVariants.{Unfinished, Finished, NullTarget, NoReading, BeyondEnds, NoRoom, NoPlace}
-use Rattle.machine.specs.declared.state.Row.{Row}
 use Rattle.machine.specs.Ends.{end_number}
-use Rattle.machine.specs.Machine.{State, state}
 use Rattle.machine.specs.Fit.{Fits, fits_int, fits_boolean, fits_null, fits_handle, Cells, no_cells, a_cell, RecordsFit}
 use Rattle.slips.specs.Reached.{Reaches, its_own, through, ReachedFit}
 use Rattle.slips.specs.Answer.{Shows}

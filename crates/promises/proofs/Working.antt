@@ -1,5 +1,5 @@
 -- Working on from a run that was worked.
-use Rattle.std.proofs.Common.{◌≡◌, ℕ, zero, suc, ◌+◌, ◌<◌, ◌≤◌, cond, eqb, ◌⊎◌, Ok, Err, sym, refl, ap, ◌∙◌, subst, inl, inr, arith}
+use Rattle.std.proofs.Common.{◌≡◌, ℕ, suc, ◌+◌, cond, eqb, ◌⊎◌, Ok, Err, sym, refl, ap, ◌∙◌, subst, inl, inr, arith}
 use Rattle.book.specs.declared.node.Type.{«Type» as BType}
 use Rattle.cool.specs.Book.{Formed}
 use Rattle.cool.specs.Nodes.{Well}

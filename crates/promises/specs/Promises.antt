@@ -1,7 +1,6 @@
 -- What is promised after every list of calls.
-use Rattle.std.specs.Prelude.{◌≡◌, ℕ, ◌≤◌, ◌⊎◌, List, length, take, Some, Ok, Err, Result}
+use Rattle.std.specs.Prelude.{◌≡◌, ℕ, ◌≤◌, ◌⊎◌, List, take, Some, Ok, Err}
 use Rattle.std.specs.List.{slice_get}
-use Rattle.pile.specs.Pile.{size}
 use Rattle.store.specs.declared.Value.{Value}
 use Rattle.store.specs.Meaning.{store}
 use Rattle.cool.specs.Syntax.{Ty, Expr, CE}
@@ -13,13 +12,12 @@ use Rattle.machine.specs.Fit.{Fitting}
 use Rattle.machine.specs.Machine.{State, Given}
 use Rattle.machine.specs.Runs.{Worked, Finished, Ended, Unfinished, OneOf}
 use Rattle.machine.specs.Laws.{Derived, ComesTo}
-use Rattle.slips.specs.declared.refused.SlipRefused.{SlipRefused}
 use Rattle.slips.specs.declared.refused.SlipRefused.TheVariants as S
 use Rattle.slips.specs.Slip.{slip as slip_bytes}
 use Rattle.engine.specs.declared.question.Told.{Told}
 use Rattle.engine.specs.declared.refused.Refused.TheVariants as R
 use Rattle.engine.specs.Runs.{state_of}
-use Rattle.promises.specs.Lists.{Own, Standing, Call, advance, question, settle, slip, own_given, Does, Event, on, After}
+use Rattle.promises.specs.Lists.{Own, Standing, Call, advance, question, slip, own_given, Does, Event, on, After}
 
 -- What the step rules are given with a run, and the state that it stands in.
 abbrev pub given_to : Standing → Given

@@ -6,17 +6,16 @@ ghost use Rattle.checked.specs.Checked.{book_of, top_type};
 ghost use Rattle.slips.specs.Slip.{printed};
 ghost use Rattle.slips.specs.Writing.{counted};
 ghost use Rattle.slips.specs.Answer.{Writes, Finds, Slips};
+
 use crate::base::Writer;
 use crate::explore::explore;
 use crate::print::print;
 use crate::refused::SlipRefused;
 use checked::CheckedBook;
-use machine::state::End;
-use machine::state::Hand;
+use machine::state::{End, Hand};
 use numbers::NumberRule;
 use pile::Pile;
-use store::ObjectStore;
-use store::Value;
+use store::{ObjectStore, Value};
 
 // The number of bytes that will be printed, if a usize can tell it.
 fn measure<S: ObjectStore>(

@@ -1,4 +1,4 @@
-use Rattle.std.proofs.Common.{refl, rules}
+use Rattle.std.proofs.Common.{refl}
 use Rattle.book.proofs.Ranks.{first_here, past_limits, past_offsets, past_names, past_totals, past_entries, past_nodes, total_first, few_nodes, nodes_add_up}
 use Rattle.book.proofs.first_fault.Goals as goal
 

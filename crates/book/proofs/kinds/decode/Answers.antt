@@ -1,4 +1,3 @@
-use Rattle.std.proofs.Common.{rules}
 use Rattle.book.specs.Kinds.{decoded}
 use Rattle.book.proofs.kinds.decode.Goals as goal
 

@@ -1,4 +1,4 @@
-use Rattle.std.proofs.Common.{sym, arith, rules}
+use Rattle.std.proofs.Common.{sym, arith}
 use Rattle.book.proofs.Counts.{any_none}
 use Rattle.book.proofs.Firsts.{after_more, stops_none, stops_same, goes_on}
 use Rattle.book.proofs.names.is_among.Goals as goal

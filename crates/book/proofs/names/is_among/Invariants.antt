@@ -1,4 +1,4 @@
-use Rattle.std.proofs.Common.{◌≡◌, ℕ, ◌<◌, false, Some, None}
+use Rattle.std.proofs.Common.{◌≡◌, ℕ, ◌<◌, false, Some}
 use Rattle.book.specs.Names.{after_names, nth_name, same_name}
 use Rattle.book.proofs.names.is_among.Given as goal
 

@@ -1,4 +1,4 @@
-use Rattle.std.proofs.Common.{sym, arith, rules}
+use Rattle.std.proofs.Common.{sym, arith}
 use Rattle.book.proofs.Firsts.{after_more, name_none}
 use Rattle.book.proofs.names.nth_name.Goals as goal
 

@@ -1,4 +1,4 @@
-use Rattle.std.proofs.Common.{◌≡◌, Some, None}
+use Rattle.std.proofs.Common.{◌≡◌, Some}
 use Rattle.book.specs.Names.{after_names}
 use Rattle.book.proofs.names.nth_name.Given as goal
 

@@ -1,4 +1,4 @@
-use Rattle.std.proofs.Common.{sym, arith, rules}
+use Rattle.std.proofs.Common.{sym, arith}
 use Rattle.book.specs.Faults.{wrong_name_in}
 use Rattle.book.proofs.Counts.{none_more}
 use Rattle.book.proofs.Firsts.{after_more, name_right}

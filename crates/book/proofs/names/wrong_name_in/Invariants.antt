@@ -1,4 +1,4 @@
-use Rattle.std.proofs.Common.{◌≡◌, ℕ, ◌<◌, false, Some, None}
+use Rattle.std.proofs.Common.{◌≡◌, ℕ, ◌<◌, false, Some}
 use Rattle.book.specs.Names.{after_names}
 use Rattle.book.specs.Faults.{wrong_name_in}
 use Rattle.book.proofs.names.wrong_name_in.Given as goal

@@ -1,4 +1,4 @@
-use Rattle.std.proofs.Common.{ℕ, eqb, sym, ap, ◌∙◌, rules}
+use Rattle.std.proofs.Common.{ℕ, eqb, ap, ◌∙◌, rules}
 use Rattle.book.specs.Faults.{uses}
 use Rattle.book.proofs.Marking.{one_use}
 use Rattle.book.proofs.nodes.is_use_right.Goals as goal

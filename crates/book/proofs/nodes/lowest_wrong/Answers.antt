@@ -1,4 +1,4 @@
-use Rattle.std.proofs.Common.{ℕ, min, sym, ap, ◌∙◌, arith, rules}
+use Rattle.std.proofs.Common.{ℕ, min, sym, ap, ◌∙◌, arith}
 use Rattle.book.specs.Counting.{total}
 use Rattle.book.specs.Faults.{wrong_node, uses_in}
 use Rattle.book.proofs.Counts.{none_more}

@@ -1,4 +1,4 @@
-use Rattle.std.proofs.Common.{arith, rules}
+use Rattle.std.proofs.Common.{arith}
 use Rattle.book.proofs.Marking.{marked_more}
 use Rattle.book.proofs.nodes.mark_all.Goals as goal
 

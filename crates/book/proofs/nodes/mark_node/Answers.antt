@@ -1,4 +1,4 @@
-use Rattle.std.proofs.Common.{sym, ap, ◌∙◌, arith, rules}
+use Rattle.std.proofs.Common.{sym, ap, ◌∙◌, arith}
 use Rattle.book.specs.Kinds.{decoded}
 use Rattle.book.proofs.Marking.{counted_node}
 use Rattle.book.proofs.nodes.mark_node.Goals as goal

@@ -1,4 +1,4 @@
-use Rattle.std.proofs.Common.{arith, rules}
+use Rattle.std.proofs.Common.{arith}
 use lib.ListN.{get_or-replicate}
 use Rattle.book.proofs.nodes.wrong_node.Goals as goal
 

@@ -1,7 +1,6 @@
-use Rattle.std.proofs.Common.{◌≡◌, Some, sym, ap, ◌∙◌}
+use Rattle.std.proofs.Common.{sym, ap, ◌∙◌}
 use Rattle.std.specs.Option.{option_map}
-use Rattle.std.specs.List.{slice_get}
-use Rattle.cool.specs.Book.{fields_of, place}
+use Rattle.cool.specs.Book.{fields_of}
 use Rattle.checked.specs.Checked.{decoded_book}
 use Rattle.checked.proofs.Searching.{find_no_place, typed_at}
 use Rattle.checked.proofs.lookup.field_type.Goals as goal

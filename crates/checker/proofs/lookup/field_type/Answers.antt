@@ -1,4 +1,4 @@
-use Rattle.std.proofs.Common.{◌+◌, ◌-◌, arith, rules}
+use Rattle.std.proofs.Common.{◌+◌, ◌-◌, arith}
 use Rattle.book.specs.Layout.{field_at}
 use Rattle.checker.specs.Checked.{checked_bytes}
 use Rattle.checker.proofs.Finding.{gone, here, later}

@@ -1,5 +1,4 @@
-use Rattle.std.proofs.Common.{◌+◌, ◌-◌, sym, ap, ◌∙◌, arith}
-use Rattle.std.specs.Option.{option_map}
+use Rattle.std.proofs.Common.{◌+◌, ◌-◌, arith}
 use Rattle.std.specs.List.{slice_get}
 use Rattle.checker.specs.Checked.{meth}
 use Rattle.checker.proofs.Finding.{gone, here, later}

@@ -1,4 +1,4 @@
-use Rattle.std.proofs.Common.{◌≡◌, ℕ, true, false, sym, refl, ◌∙◌, ⊎_elim, arith}
+use Rattle.std.proofs.Common.{◌≡◌, ℕ, false, sym, refl, ◌∙◌, ⊎_elim, arith}
 use Rattle.engine.specs.Calls.{too_far, goes_too_far, other_rows, stays, works}
 use Rattle.engine.proofs.calls.advance.Goals as goal
 

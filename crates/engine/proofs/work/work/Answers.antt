@@ -3,7 +3,6 @@ use Rattle.pile.specs.Pile.{size}
 use Rattle.store.specs.Meaning.{store}
 use Rattle.checked.specs.Checked.{book_of}
 use Rattle.machine.specs.declared.state.End.{End}
-use Rattle.machine.specs.declared.state.End.TheVariants.{Finished}
 use Rattle.machine.specs.Machine.{state}
 use Rattle.engine.specs.declared.base.Run.{Run}
 use Rattle.engine.specs.declared.moves.Stepped.TheVariants as came

@@ -1,4 +1,4 @@
-use Rattle.std.proofs.Common.{length, refl, arith, rules}
+use Rattle.std.proofs.Common.{refl, arith, rules}
 use Rattle.slips.proofs.Pieces.{measured, not_measured, printed_all}
 use Rattle.slips.proofs.write.print_within.Goals as goal
 
