@@ -34,7 +34,7 @@ pub data Answers (input : List ℕ) : List ℕ → Type 0 where
   no_book : {f : Fault} → wrong_input input ≡ false → First (book_bytes input) f → Answers input (refused_line (number f) (place f))
   no_type : {e : TypeFault} → wrong_input input ≡ false → Clear (book_bytes input) → Holds (view (book_bytes input)) e → HasNoType (view (book_bytes input))
       → Answers input (refused_line (typing_number e) (typing_place e))
-  too_long : {z : BType} {text : List ℕ} → wrong_input input ≡ false → Clear (book_bytes input) → HasType (view (book_bytes input)) z → HasSlip (view (book_bytes input)) (readings input) text
+  too_long : (z : BType) {text : List ℕ} → wrong_input input ≡ false → Clear (book_bytes input) → HasType (view (book_bytes input)) z → HasSlip (view (book_bytes input)) (readings input) text
       → 65536 < length text → Answers input (refused_line 26 0)
-  printed : {z : BType} {text : List ℕ} → wrong_input input ≡ false → Clear (book_bytes input) → HasType (view (book_bytes input)) z → HasSlip (view (book_bytes input)) (readings input) text
+  printed : (z : BType) {text : List ℕ} → wrong_input input ≡ false → Clear (book_bytes input) → HasType (view (book_bytes input)) z → HasSlip (view (book_bytes input)) (readings input) text
       → length text ≤ 65536 → Answers input text

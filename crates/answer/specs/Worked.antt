@@ -1,5 +1,5 @@
 -- A run from begin to slip, by the calls one after another.
-use Rattle.std.specs.Prelude.{◌≡◌, ℕ, List, ℤ, Ok, Err, Result}
+use Rattle.std.specs.Prelude.{ℕ, List, ℤ, Ok, Err, Result}
 use Rattle.book.specs.declared.node.Type.{«Type» as BType}
 use Rattle.book.specs.declared.fault.Refusal.{Refusal}
 use Rattle.numbers.specs.Rule.{Rule}
