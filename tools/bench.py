@@ -180,7 +180,7 @@ def growth(slip, plain):
 
 def main():
     options = argparse.ArgumentParser()
-    options.add_argument('--slip', default=os.path.join(HERE, 'target/bin/slip'))
+    options.add_argument('--slip', default=os.path.join(HERE, 'crates/slip/out/slip'))
     options.add_argument('--plain', default=os.path.join(HERE, 'bench/plain/target/release/plain'))
     given = options.parse_args()
     for program in given.slip, given.plain, 'valgrind', 'javac', 'java':

@@ -411,7 +411,7 @@ def write(path, text):
 
 def main():
     options = argparse.ArgumentParser()
-    options.add_argument('--slip', default=os.path.join(HERE, 'target/bin/slip'))
+    options.add_argument('--slip', default=os.path.join(HERE, 'crates/slip/out/slip'))
     options.add_argument('--plain', default=os.path.join(HERE, 'bench/plain/target/release/plain'))
     options.add_argument('--programs', type=int, default=2400)
     options.add_argument('--seed', type=int, default=1)
