@@ -1,7 +1,7 @@
 // The kinds of nodes: from numbers to a node, and what a node's numbers name.
 ghost use Rattle.std.specs.Prelude.{◌≡◌, ◌+◌, ◌*◌};
 ghost use Rattle.std.specs.List.{slice_get};
-ghost use Rattle.book.specs.Kinds.{signed32, kinds, decoded, of_sort, parts, numbers_right, expression as an-expression, command as a-command};
+ghost use Rattle.book.specs.Kinds.{signed32, kinds, decoded, of_sort, parts, numbers_right, expression as an_expression, command as a_command};
 
 use crate::node::{Node, Part, Parts, Raw, Sort};
 
@@ -84,7 +84,7 @@ pub(crate) fn is_of_sort(sort: Sort, kind: u16) -> bool
 }
 
 fn expression(node: u16) -> Option<Part>
-    ensures { result ≡ an-expression node }
+    ensures { result ≡ an_expression node }
 {
     Some(Part {
         node,
@@ -93,7 +93,7 @@ fn expression(node: u16) -> Option<Part>
 }
 
 fn command(node: u16) -> Option<Part>
-    ensures { result ≡ a-command node }
+    ensures { result ≡ a_command node }
 {
     Some(Part {
         node,

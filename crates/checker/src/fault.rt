@@ -1,4 +1,4 @@
-// Why a book has no type.
+// The faults of typing, each with its number and its place.
 ghost use Rattle.std.specs.Prelude.{◌≡◌};
 ghost use Rattle.checker.specs.Causes.{refusal};
 

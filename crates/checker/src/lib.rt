@@ -1,5 +1,5 @@
 // Checking a book's types: what the checker finds of each node and why it refuses, as a definition, and the code that finds it.
-// The call that checks a whole book is not built yet.
+// The call that checks a whole book stands in the crate `checked`.
 #![tactic(auto)]
 
 ghost use Rattle.std.specs.Prelude.{ℕ};

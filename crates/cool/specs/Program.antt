@@ -62,6 +62,6 @@ module _ (R : Rule) (day : List ℤ) where
         → program cds e ⇝ ce ∣ u → ◌∣◌∣◌⊢◌⇓◌∣◌ ce R day ∅ None None e v h
         → program cds e ⇓ v
 
--- Two programs give rise to one pair (CE, u) at most. For any program p there is at most one: Same-type p p.
+-- Two programs give rise to one pair (CE, u) at most. For any program p there is at most one: SameType p p.
 abbrev pub SameType : Program → Program → Type 0
 SameType p p' = (ce ce' : CE) (u u' : Ty) → p ⇝ ce ∣ u → p' ⇝ ce' ∣ u' → (ce ≡ ce') × (u ≡ u')

@@ -9,7 +9,7 @@ use Rattle.store.specs.Meaning.{Rec, Store}
 use Rattle.cool.specs.Syntax.{Name}
 use Rattle.cool.specs.Dynamic.{Record, Object, object, Heap}
 use Rattle.cool.specs.Book.{Part, Book}
--- The place of a field, counted from 0.
+-- The place of a field, counted from 0, stands with the book.
 pub use Rattle.cool.specs.Book.{place}
 
 -- A field's first value: 0, false or null.

@@ -41,7 +41,7 @@ pub(crate) fn set_last<T: Copy>(places: &mut [T], height: usize, item: T)
 }
 
 pub(crate) fn contains<T: Copy + PartialEq>(places: &[T], height: usize, item: T) -> bool
-    ensures { IsAnyAnswer (λ y. (λ r'. r' ≡ T.PartialEq.eq y item)) (take height places.now) result }
+    ensures { IsAnyAnswer (λ y r'. r' ≡ T.PartialEq.eq y item) (take height places.now) result }
 {
     let n = count(places, height);
     places[0..n].contains(&item)

@@ -103,7 +103,7 @@ impl<'a, T: Copy + PartialEq> Pile<'a, T> {
 
     // Whether an item equal to this one is on the pile.
     pub fn contains(&self, item: T) -> bool
-        ensures { IsAnyAnswer (λ y. (λ r'. r' ≡ T.PartialEq.eq y item)) (items self.now) result }
+        ensures { IsAnyAnswer (λ y r'. r' ≡ T.PartialEq.eq y item) (items self.now) result }
     {
         front::contains(self.places, self.height, item)
     }

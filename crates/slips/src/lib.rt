@@ -43,7 +43,7 @@ pub fn write_slip<S: ObjectStore, N: NumberRule>(
 ) -> Result<usize, SlipRefused>
     ensures kept { Kept found.old found.new }
     ensures empty { items found.new ≡ [] }
-    ensures answer { Slips (record { book = book_of book.entry.now; top = top_type book.entry.now; rule = N.NumberRule.rule; store = store (S.ObjectStore.means objects.now); end = end; steps = steps; hand = hand }) (size found.old) out.old out.new result }
+    ensures answer { Slips (record { book = book_of book.now; top = top_type book.now; rule = N.NumberRule.rule; store = store (S.ObjectStore.means objects.now); end = end; steps = steps; hand = hand }) (size found.old) out.old out.new result }
 {
     let answer = write::answer::<S, N>(end, steps, hand, book, objects, found, out);
     found.clear();

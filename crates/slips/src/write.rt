@@ -96,7 +96,7 @@ pub(crate) fn answer<S: ObjectStore, N: NumberRule>(
     out: &mut [u8],
 ) -> Result<usize, SlipRefused>
     ensures kept { Kept found.old found.new }
-    ensures answer { Slips (record { book = book_of book.entry.now; top = top_type book.entry.now; rule = N.NumberRule.rule; store = store (S.ObjectStore.means objects.now); end = end; steps = steps; hand = hand }) (size found.old) out.old out.new result }
+    ensures answer { Slips (record { book = book_of book.now; top = top_type book.now; rule = N.NumberRule.rule; store = store (S.ObjectStore.means objects.now); end = end; steps = steps; hand = hand }) (size found.old) out.old out.new result }
 {
     found.clear();
     if found.places() < objects.record_count() {

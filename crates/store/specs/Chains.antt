@@ -1,4 +1,5 @@
 -- Records as chains of single cells.
+-- Lemmas: they stand in specs/ since the ghost member `sound` of each store cites them.
 use Rattle.std.specs.Prelude.{◌≡◌, ℕ, zero, suc, ◌+◌, ◌-◌, ◌<◌, ◌≤◌, true, ◌⊎◌, List, [], ◌∷◌, ◌++◌, length, drop, set, is_some, Some, None, vec_items, vec_len, Option, ◌≢◌, slice_index_or, slice_set, refl}
 use Rattle.std.proofs.Math.Path.{sym, ap}
 use Rattle.std.proofs.Common.{◌∙◌, subst, inl, inr, suc-add, arith, length-set, length-append, get_or-set_same, get_or-set_other}

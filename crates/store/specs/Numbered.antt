@@ -1,4 +1,5 @@
 -- Records under handles that count up from 0, whatever heads stand for them.
+-- Lemmas: they stand in specs/ since the ghost member `sound` of each store cites them.
 use Rattle.std.specs.Prelude.{◌≡◌, ℕ, zero, suc, ◌+◌, ◌<◌, ◌≤◌, true, false, cond, List, [], ◌∷◌, ◌++◌, map, length, is_some, Some, None, Option, ◌≢◌, nat_eq, nat_lt}
 use Rattle.std.proofs.Math.Path.{refl, sym, ap}
 use Rattle.std.proofs.Common.{◌∙◌, inl, inr, add-zero, zero-add, add-suc, suc-add, arith}

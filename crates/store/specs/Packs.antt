@@ -1,4 +1,5 @@
 -- Records packed end to end.
+-- Lemmas: they stand in specs/ since the ghost member `sound` of each store cites them.
 use Rattle.std.specs.Prelude.{◌≡◌, ℕ, zero, suc, ◌+◌, ◌-◌, ◌<◌, ◌≤◌, true, List, [], ◌∷◌, ◌++◌, length, take, drop, set, is_some, Some, None, vec_items, Option, slice_index_or, slice_set}
 use Rattle.std.proofs.Common.{sym, ap, ◌∙◌, subst, inl, inr, arith, length-take, length-drop, drop-set-lt, get_or-take, get_or-drop, take_all}
 use Rattle.std.proofs.Math.Seq.{take-set-lt}

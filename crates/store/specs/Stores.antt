@@ -1,4 +1,5 @@
 -- What holds of records and of stores, whatever keeps them.
+-- Lemmas: they stand in specs/ since the ghost member `sound` of each store cites them.
 use Rattle.std.specs.Prelude.{◌≡◌, ℕ, zero, suc, ◌+◌, true, false, cond, List, [], ◌∷◌, ◌++◌, length, Some, None, ◌==◌, ◌≢◌, nat_eq, slice_set, refl}
 use Rattle.std.proofs.Common.{sym, ap, arith, length-set}
 use Rattle.std.proofs.Math.Path.{fun_ext}
