@@ -9,7 +9,7 @@ import os
 import struct
 import sys
 
-from books import Parts, day, parts_of, tide
+from books import Parts, day, many, parts_of, tide
 
 CASES = []
 
@@ -49,25 +49,6 @@ def named(number, name):
 def accepted(book, readings=0):
     h = book.header
     return 'readings %d\nclasses %d fields %d methods %d nodes %d names %d' % (readings, *h[1:6])
-
-
-# Three classes whose strips use every kind of node.
-ONE = [('one', 'int', 'int',
-        [('skip',), ('skip',), ('sequence', 0, 1)],                                    # nodes 0 to 2
-        [('parameter',), ('literal', -1), ('minus', 0, 1)])]                           # nodes 3 to 5
-TWO = [('two', 'boolean', 'First',
-        [('parameter',), ('is_null', 0), ('skip',), ('this',), ('this',), ('field', 4, 'left'), ('write', 3, 5, 'left'),
-         ('if', 1, 2, 6)],                                                             # nodes 6 to 13
-        [('literal', 3), ('reading', 0), ('literal', 4), ('less', 1, 2)]),              # nodes 14 to 17
-       ('more', 'boolean', 'int',
-        [('parameter',), ('literal', 9), ('equal', 0, 1), ('skip',), ('while', 2, 3)],  # nodes 18 to 22
-        [('parameter',), ('literal', 1), ('equal', 0, 1)])]                             # nodes 23 to 25
-MANY = [('First', [('left', 'Last'), ('right', 'int')], ONE), ('Second', [('left', 'boolean')], TWO), ('Last', [('end', 'First')], [])]
-TOP = [('new', 'First'), ('literal', 5), ('call', 0, 1, 'one')]                         # nodes 26 to 28
-
-
-def many():
-    return parts_of(MANY, TOP)
 
 
 def tables():
