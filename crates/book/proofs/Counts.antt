@@ -1,14 +1,12 @@
 -- Sums and searches over numbers.
-use Rattle.std.proofs.Common.{◌≡◌, ℕ, zero, suc, ◌+◌, ◌*◌, ◌^◌, ◌<◌, ◌≤◌, Bool, true, false, ◌&&◌, eqb, leb, List, [], ◌∷◌, Some, None, Option, sym, refl, ◌∙◌, subst, inl, inr, mul-le-mul_left, add-one, arith}
+use Rattle.std.proofs.Common.{◌≡◌, ℕ, zero, suc, ◌+◌, ◌<◌, ◌≤◌, Bool, true, false, ◌&&◌, eqb, leb, List, [], ◌∷◌, length, get_or, drop, cond, Some, None, Option, sym, refl, ◌∙◌, subst, inl, inr, add-one, arith}
+use Rattle.std.proofs.lemmas.List.{at_drop_more}
 use Rattle.std.proofs.lemmas.Bool.{cases_eq, leb-true, ne_eqb, eq-eqb, or_from, or_left, or_right, and_left, and_right, and_from, and_parts}
+use Rattle.book.specs.Layout.{method_nodes, command_nodes, returned_nodes}
 use Rattle.book.specs.Counting.{total, any_below, at_place, first_place, Lowest}
 
 pub total_more : (f : ℕ → ℕ) (n : ℕ) → total f (n + 1) ≡ total f n + f n
 total_more f n = rw add-one
-
--- a part of a product
-pub times_below : (a b c n : ℕ) → b < c → n + a * c < 2 ^ 48 → n + a * b < 2 ^ 48
-times_below a b c n h l = let m : a * b ≤ a * c = mul-le-mul_left a (omega arith) in omega arith
 
 -- what a search finds
 pub any_none : (t : ℕ → Bool) (n : ℕ) → ((k : ℕ) → k < n → t k ≡ false) → any_below n t ≡ false
@@ -27,10 +25,10 @@ any_some t (suc n) k h e =
 pub none_more : (t : ℕ → Bool) (n : ℕ) → ((k : ℕ) → k < n → t k ≡ false) → t n ≡ false → (k : ℕ) → k < n + 1 → t k ≡ false
 none_more t n h e k l = elim (cases_eq k n) [ inl same ↦ subst (λ j. t j ≡ false) (sym same) e | inr other ↦ h k (omega arith) ]
 
--- the nodes of two strips to a method
-pub total_both : (f g : ℕ → ℕ) (n : ℕ) → total (λ i. f i + g i) n ≡ total f n + total g n
-total_both f g zero = refl
-total_both f g (suc n) = let h = total_both f g n in omega arith
+-- the nodes of a method are those of its two strips
+pub total_strips : (bs : List ℕ) (m : ℕ) → total (method_nodes bs) m ≡ total (command_nodes bs) m + total (returned_nodes bs) m
+total_strips bs zero = refl
+total_strips bs (suc m) = let h = total_strips bs m in omega arith
 
 pub total_mono : (f : ℕ → ℕ) (a b : ℕ) → a ≤ b → total f a ≤ total f b
 total_mono f a zero h = let e : a ≡ 0 = omega arith in rw e (omega arith)
@@ -38,6 +36,15 @@ total_mono f a (suc b) h =
     elim (cases_eq a (suc b)) [
       | inl same ↦ rw same (omega arith)
       | inr other ↦ let l = total_mono f a b (omega arith) in omega arith
+    ]
+
+-- a sum past which all is 0
+pub total_stops : (f : ℕ → ℕ) (a b : ℕ) → a ≤ b → ((j : ℕ) → a ≤ j → j < b → f j ≡ 0) → total f a ≡ total f b
+total_stops f a zero h none = let e : a ≡ 0 = omega arith in rw e refl
+total_stops f a (suc b) h none =
+    elim (cases_eq a (suc b)) [
+      | inl same ↦ rw same refl
+      | inr other ↦ let l = total_stops f a b (omega arith) (λ j p q. none j p (omega arith)) in let z = none b (omega arith) (omega arith) in omega arith
     ]
 
 -- the places of a table ascend, from p on
@@ -65,3 +72,7 @@ table_lowest ((n, true) ∷ xs) p h = (
 )
 table_lowest ((n, false) ∷ xs) p h =
     lowest_same _ (at_place xs) (first_place xs) (λ q. rw (and_right (eqb q n) false refl)) (table_lowest xs (suc n) (and_parts _ _ h).1)
+
+-- the first place of a table, sought from an index on
+pub first_place_skip : (t : List (ℕ × Bool)) (k : ℕ) (d : ℕ × Bool) → k < length t → first_place (drop k t) ≡ cond (get_or t k d).1 (Some (get_or t k d).0) (first_place (drop (k + 1) t))
+first_place_skip t k d l = at_drop_more first_place t k d l

@@ -5,9 +5,9 @@ use Rattle.book.specs.declared.fault.Fault.{Fault}
 use Rattle.book.specs.declared.fault.Fault.TheVariants.{Version}
 use Rattle.book.specs.Counting.{at_place}
 use Rattle.book.specs.Layout.{class_count, field_count, method_count, node_count, name_count}
-use Rattle.book.specs.Faults.{number, place, is_there, wrong_version, limits, offsets, totals, First, Clear, FaultsDecide}
+use Rattle.book.specs.Faults.{number, place, is_there, wrong_version, limits, offsets, totals, FreeBelow, First, Clear, FaultsDecide}
 use Rattle.book.proofs.Counts.{none_more}
-use Rattle.book.proofs.Ranks.{numbered, is_numbered, Free, free_start, free_next, free_all, first_here}
+use Rattle.book.proofs.Ranks.{numbered, is_numbered, free_next, free_all, first_here, version_free, version_first}
 
 -- the lowest number below n of which a test holds, or none
 lowest_below : (t : ℕ → Bool) (n : ℕ) → ((k : ℕ) → k < n → t k ≡ false) ⊎ ((p : ℕ) × ((t p ≡ true) × ((q : ℕ) → q < p → t q ≡ false)))
@@ -34,8 +34,8 @@ beyond (x ∷ xs) b k h l =
 
 module _ (bs : List ℕ) where
   -- one number more is free, or has the first fault
-  goes : (n b : ℕ) → Free bs n → ((p : ℕ) → number (numbered n p) ≡ n) → ((p : ℕ) → place (numbered n p) ≡ p) → ((k : ℕ) → b ≤ k → is_there bs (numbered n k) ≡ false)
-      → Free bs (n + 1) ⊎ ((f : Fault) × First bs f)
+  goes : (n b : ℕ) → FreeBelow bs n → ((p : ℕ) → number (numbered n p) ≡ n) → ((p : ℕ) → place (numbered n p) ≡ p) → ((k : ℕ) → b ≤ k → is_there bs (numbered n k) ≡ false)
+      → FreeBelow bs (n + 1) ⊎ ((f : Fault) × First bs f)
   goes n b free nums places past =
       elim (lowest_below (λ k. is_there bs (numbered n k)) b) [
         | inl none ↦ inl (free_next bs n free (λ p. elim (cases_lt p b) [ inl low ↦ none p low | inr high ↦ past p high ]))
@@ -43,11 +43,11 @@ module _ (bs : List ℕ) where
       ]
 
   -- the seven numbers one after another
-  version_next : Free bs 2 ⊎ ((f : Fault) × First bs f)
+  version_next : FreeBelow bs 2 ⊎ ((f : Fault) × First bs f)
   version_next =
       elim (cases_Bool (wrong_version bs)) [
-        | inl wrong ↦ inr (Version, record { there = wrong; none_before = λ g b. elim b [ inl lower ↦ free_start bs g lower | inr (same, earlier) ↦ absurd (omega arith) ] })
-        | inr right ↦ inl (free_next bs 1 (free_start bs) (λ p. right))
+        | inl wrong ↦ inr (Version, version_first bs wrong)
+        | inr right ↦ inl (version_free bs right)
       ]
 
   then : {A B C : Type 0} → A ⊎ C → (A → B ⊎ C) → B ⊎ C

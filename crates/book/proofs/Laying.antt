@@ -1,10 +1,9 @@
 -- Which strip holds a node.
-use Rattle.std.proofs.Common.{◌≡◌, ℕ, zero, suc, ◌+◌, ◌-◌, ◌<◌, ◌≤◌, true, false, ltb, leb, List, sym, ◌∙◌, subst, arith}
-use Rattle.std.proofs.lemmas.Bool.{le-ltb, leb-true, and_parts, and_right, cond-false, cond-true}
+use Rattle.std.proofs.Common.{◌≡◌, ℕ, zero, suc, ◌+◌, ◌-◌, ◌<◌, ◌≤◌, true, false, ltb, leb, List, sym, ◌∙◌, subst, inl, inr, arith}
+use Rattle.std.proofs.lemmas.Bool.{cases_Bool, le-ltb, leb-true, ltb-true, and_parts, and_right, cond-false, cond-true}
 use Rattle.book.specs.declared.entry.Strip.{Strip}
 use Rattle.book.specs.Counting.{total}
-use Rattle.book.specs.declared.node.Sort.TheVariants.{Expression, Command}
-use Rattle.book.specs.Layout.{method_count, method_nodes, command_nodes, returned_nodes, top_count}
+use Rattle.book.specs.Layout.{method_count, node_count, method_nodes, command_nodes, top_count}
 use Rattle.book.specs.Strips.{command_strip, returned_strip, top_strip, holds_node, strip_from, strip_of}
 use Rattle.book.specs.Noted.{Proper}
 use Rattle.book.proofs.Counts.{total_more, total_mono}
@@ -55,19 +54,47 @@ module _ (bs : List ℕ) (k : ℕ) where
   unfolding strip_of
   in_top h = reaches (method_count bs) 0 (method_count bs) 0 (method_count bs) (omega arith) (omega arith) h
 
+-- what holds of each strip that can hold node k, and of the top-level expression's, holds of the strip of node k
+module _ (bs : List ℕ) (k : ℕ) (P : Strip → Type 0)
+    (command : (m : ℕ) → m < method_count bs → holds_node (command_strip bs m) k ≡ true → P (command_strip bs m))
+    (returned : (m : ℕ) → m < method_count bs → holds_node (returned_strip bs m) k ≡ true → P (returned_strip bs m))
+    (top : P (top_strip bs)) where
+  strip_from_cases : (m n : ℕ) → m + n ≡ method_count bs → P (strip_from bs k m n)
+  strip_from_cases m zero e = top
+  strip_from_cases m (suc n) e =
+      elim (cases_Bool (holds_node (command_strip bs m) k)) [
+        | inl yes' ↦ subst P (sym (cond-true _ _ _ yes')) (command m (omega arith) yes')
+        | inr no' ↦ elim (cases_Bool (holds_node (returned_strip bs m) k)) [
+          | inl also ↦ subst P (sym (cond-false _ _ _ no' ∙ cond-true _ _ _ also)) (returned m (omega arith) also)
+          | inr neither ↦ subst P (sym (cond-false _ _ _ no' ∙ cond-false _ _ _ neither)) (strip_from_cases (m + 1) n (omega arith))
+        ]
+      ]
+
+  strip_of_cases : P (strip_of bs k)
+  unfolding strip_of
+  strip_of_cases = strip_from_cases 0 (method_count bs) (omega arith)
+
+-- the strip of a node holds its nodes
+pub proper_of : (bs : List ℕ) (k : ℕ) → Proper bs (strip_of bs k)
+proper_of bs k =
+    strip_of_cases bs k (Proper bs) (λ m l e q held. in_command bs q m l held) (λ m l e q held. in_returned bs q m l held)
+    (λ q held. in_top bs q (leb-true _ _ (and_parts _ _ held).0))
+
+-- and ends behind it
+pub ends_behind : (bs : List ℕ) (k : ℕ) → total (method_nodes bs) (method_count bs) + top_count bs ≡ node_count bs → k < node_count bs → k < (strip_of bs k).first + (strip_of bs k).nodes
+ends_behind bs k full l =
+    strip_of_cases bs k (λ s. k < s.first + s.nodes) (λ m _ e. ltb-true _ _ (and_parts _ _ e).1) (λ m _ e. ltb-true _ _ (and_parts _ _ e).1) (omega arith)
+
+-- the nodes of a method lie before the top-level expression's
+pub method_fits : (bs : List ℕ) (m : ℕ) → m < method_count bs → total (method_nodes bs) m + method_nodes bs m ≤ total (method_nodes bs) (method_count bs)
+method_fits bs m l = let more = total_more (method_nodes bs) m in let low = total_mono (method_nodes bs) (m + 1) (method_count bs) (omega arith) in omega arith
+
 -- strips as the reader lays them
-module _ (bs : List ℕ) (m first nodes : ℕ) where
-  pub proper_command : m < method_count bs → first ≡ total (method_nodes bs) m → nodes ≡ command_nodes bs m → Proper bs (record { first = first; nodes = nodes; sort = Command })
-  proper_command h e f =
-      let is : record { first = first; nodes = nodes; sort = Command } ≡ command_strip bs m = cc in
-      subst (λ s. Proper bs s) (sym is) (λ k held. in_command bs k m h held)
+pub proper_command : (bs : List ℕ) (m : ℕ) → m < method_count bs → Proper bs (command_strip bs m)
+proper_command bs m l k held = in_command bs k m l held
 
-  pub proper_returned : m < method_count bs → first ≡ total (method_nodes bs) m + command_nodes bs m → nodes ≡ returned_nodes bs m → Proper bs (record { first = first; nodes = nodes; sort = Expression })
-  proper_returned h e f =
-      let is : record { first = first; nodes = nodes; sort = Expression } ≡ returned_strip bs m = cc in
-      subst (λ s. Proper bs s) (sym is) (λ k held. in_returned bs k m h held)
+pub proper_returned : (bs : List ℕ) (m : ℕ) → m < method_count bs → Proper bs (returned_strip bs m)
+proper_returned bs m l k held = in_returned bs k m l held
 
-pub proper_top : (bs : List ℕ) (first nodes : ℕ) → first ≡ total (method_nodes bs) (method_count bs) → nodes ≡ top_count bs → Proper bs (record { first = first; nodes = nodes; sort = Expression })
-proper_top bs first nodes e f =
-    let is : record { first = first; nodes = nodes; sort = Expression } ≡ top_strip bs = cc in
-    subst (λ s. Proper bs s) (sym is) (λ k held. in_top bs k (leb-true _ _ (and_parts _ _ held).0))
+pub proper_top : (bs : List ℕ) → Proper bs (top_strip bs)
+proper_top bs k held = in_top bs k (leb-true _ _ (and_parts _ _ held).0)

@@ -1,4 +1,5 @@
 pub mod Counts
+pub mod Spelling
 pub mod Firsts
 pub mod Laying
 pub mod Marking

@@ -1,5 +1,5 @@
 -- The seven faults of a file, and the first of them.
-use Rattle.std.specs.Prelude.{◌≡◌, ℕ, ◌+◌, ◌-◌, ◌*◌, ◌<◌, Bool, true, false, cond, not, ◌&&◌, ◌||◌, ◌⊎◌, List, [], ◌∷◌, length, is_some, Some, None, Option, ◌==◌, nat_le, nat_lt}
+use Rattle.std.specs.Prelude.{◌≡◌, ℕ, ◌+◌, ◌-◌, ◌*◌, ◌<◌, Bool, true, false, cond, not, ◌&&◌, ◌||◌, ◌⊎◌, List, [], ◌∷◌, ◌++◌, length, codes, decimal, is_some, Some, None, Option, ◌==◌, nat_le, nat_lt, ⊤, Result, MatchResult}
 use Rattle.book.specs.declared.fault.Fault.{Fault}
 use Rattle.book.specs.declared.fault.Fault.TheVariants.{Version, Limit, Offset, Name, Total, Entry, Node}
 use Rattle.book.specs.declared.fault.Refusal.{Refusal}
@@ -33,6 +33,10 @@ place (Node k) = k
 
 abbrev pub refusal : Fault → Refusal
 refusal f = record { number = number f; place = place f }
+
+-- What is printed of a refusal.
+abbrev pub refusal_text : Refusal → List ℕ
+refusal_text r = codes "refused " ++ decimal r.number ++ codes " at " ++ decimal r.place
 
 abbrev pub differs : ℕ → ℕ → Bool
 differs m n = not (m == n)
@@ -163,6 +167,14 @@ Before f g = (number f < number g) ⊎ ((number f ≡ number g) × (place f < pl
 pub record First (bs : List ℕ) (f : Fault) : Type 0 where
   pub there : is_there bs f ≡ true
   pub none_before : (g : Fault) → Before g f → is_there bs g ≡ false
+
+-- No fault with a number below n is there.
+pub record FreeBelow (bs : List ℕ) (n : ℕ) : Type 0 where
+  pub none : (f : Fault) → number f < n → is_there bs f ≡ false
+
+-- What a look for the faults with number n comes to, once none below is there: none of these is there either, or the first fault.
+abbrev pub Looks : List ℕ → ℕ → Result ⊤ Fault → Type 0
+Looks bs n r = MatchResult r (λ _. FreeBelow bs (n + 1)) (First bs)
 
 -- A file clear of all faults.
 pub record Clear (bs : List ℕ) : Type 0 where

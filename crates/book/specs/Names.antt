@@ -1,5 +1,6 @@
 -- The name part: each name is a length byte from 1 to 31 and then that many bytes.
-use Rattle.std.specs.Prelude.{ℕ, zero, suc, Bool, true, false, cond, ◌&&◌, ◌||◌, List, [], ◌∷◌, length, take, drop, Some, None, Option, ◌==◌, nat_le, nat_lt}
+use Rattle.std.specs.Prelude.{ℕ, zero, suc, Bool, false, cond, ◌&&◌, ◌||◌, List, [], ◌∷◌, length, take, drop, Some, None, Option, ◌==◌, nat_le, nat_lt}
+use Rattle.std.specs.List.{list_all}
 use Rattle.std.specs.Option.{option_map}
 use Rattle.std.specs.Str.{bytes_eq}
 use Rattle.book.specs.Counting.{any_below}
@@ -13,8 +14,7 @@ abbrev pub letter_or_digit : ℕ → Bool
 letter_or_digit b = letter b || (nat_le 48 b && nat_le b 57)
 
 abbrev pub letters_or_digits : List ℕ → Bool
-letters_or_digits [] = true
-letters_or_digits (b ∷ bs) = letter_or_digit b && letters_or_digits bs
+letters_or_digits bs = list_all letter_or_digit bs
 
 -- The bytes of a name: letters, digits and underscores, no digit first.
 abbrev pub spelled : List ℕ → Bool

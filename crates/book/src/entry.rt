@@ -12,7 +12,7 @@ pub struct Counts {
 }
 
 // A class: its name number, and which fields and methods are its own.
-#[derive(Clone, Copy)]
+#[derive(Clone, Copy, Default)]
 pub struct Class {
     pub name: u16,
     pub first_field: u32,
@@ -22,7 +22,7 @@ pub struct Class {
 }
 
 // A field: its name number and its type.
-#[derive(Clone, Copy)]
+#[derive(Clone, Copy, Default)]
 pub struct Field {
     pub name: u16,
     pub typed: Type,
@@ -34,6 +34,27 @@ pub struct Strip {
     pub first: usize,
     pub nodes: u16,
     pub sort: Sort,
+}
+
+impl Strip {
+    ghost use Rattle.std.specs.Prelude.{◌≡◌};
+    ghost use Rattle.book.specs.Strips.{holds_node, is_root};
+
+    // Whether a node is in the strip.
+    pub(crate) fn holds(self, node: u16) -> bool
+        ensures { result ≡ holds_node self node }
+    {
+        let (node, nodes) = (usize::from(node), usize::from(self.nodes));
+        self.first <= node && node - self.first < nodes
+    }
+
+    // Whether a node is the strip's root, its last node.
+    pub(crate) fn has_root(self, node: u16) -> bool
+        ensures { result ≡ is_root self node }
+    {
+        let next = usize::from(node) + 1;
+        self.first <= next && next - self.first == usize::from(self.nodes)
+    }
 }
 
 // A method: its name number, its types, and its two strips.

@@ -1,6 +1,8 @@
 // Why a file is no book.
-ghost use Rattle.std.specs.Prelude.{◌≡◌};
-ghost use Rattle.book.specs.Faults.{refusal};
+ghost use Rattle.std.specs.Prelude.{◌≡◌, Some};
+ghost use Rattle.book.specs.Faults.{refusal, refusal_text};
+
+use std::fmt;
 
 #[derive(Clone, Copy, PartialEq, Eq, Debug)]
 pub enum Fault {
@@ -21,18 +23,18 @@ pub enum Fault {
 }
 
 // How a refusal is told: by its number and its place.
-#[derive(Clone, Copy)]
+#[derive(Clone, Copy, PartialEq, Eq, Debug)]
 pub struct Refusal {
     pub number: u16,
     pub place: usize,
 }
 
-impl Fault {
+impl From<Fault> for Refusal {
+    ghost from_gives = { λ fault r. r ≡ refusal fault };
+
     // The number and the place under which the fault is refused.
-    pub fn refusal(self) -> Refusal
-        ensures { result ≡ refusal self }
-    {
-        let (number, place) = match self {
+    fn from(fault: Fault) -> Refusal {
+        let (number, place) = match fault {
             Fault::Version => (1, 0),
             Fault::Limit(place) => (2, place),
             Fault::Offset(place) => (3, place),
@@ -42,5 +44,14 @@ impl Fault {
             Fault::Node(node) => (7, node),
         };
         Refusal { number, place }
+    }
+}
+
+impl fmt::Display for Refusal {
+    ghost output = { λ refusal. Some (refusal_text refusal) };
+
+    fn fmt<W: fmt::Write>(&self, f: &mut fmt::Formatter<W>) -> fmt::Result {
+        let Refusal { number, place } = *self;
+        write!(f, "refused {number} at {place}")
     }
 }

@@ -1,90 +1,110 @@
-// The faults of a file, each looked for from its lowest place on.
-ghost use Rattle.std.specs.Prelude.{◌≡◌, ℕ, ◌+◌, ◌^◌, ◌<◌, true, false, length, Some, None};
-ghost use Rattle.book.specs.Counting.{first_place, Lowest};
-ghost use Rattle.book.specs.Faults.{wrong_version, limits, offsets, totals, wrong_name, no_name, no_type, wrong_class, wrong_field, wrong_method, wrong_entry};
+// The faults of a file: a look for each kind, once none of the kinds before it is there.
+ghost use Rattle.std.specs.Prelude.{◌≡◌};
+ghost use Rattle.std.specs.Result.{result_err};
+ghost use Rattle.book.specs.Counting.{first_place};
+ghost use Rattle.book.specs.Faults.{FreeBelow, Looks, no_name, no_type, wrong_class, wrong_field, wrong_method, wrong_entry};
 
+use crate::fault::Fault;
 use crate::layout::{
-    CLASS_PART, CLASSES, FIELD_PART, FIELDS, METHOD_PART, METHODS, NAME_PART, NAMES, NODE_PART,
-    NODES, TOP, VERSION, header_at, name_bytes, nodes_before, sum_words, word_at,
+    CLASS_PART, CLASS_SIZE, CLASSES, Entries, FIELD_PART, FIELD_SIZE, FIELDS, METHOD_PART,
+    METHOD_SIZE, METHODS, NAME_PART, NAMES, NODE_PART, NODES, TOP, VERSION, header_at, name_bytes,
+    nodes_before,
 };
-use crate::names::wrong_name_in;
+use crate::names::check_names_in;
 
-pub(crate) fn is_version_wrong(bytes: &[u8]) -> bool
-    ensures { result ≡ wrong_version bytes.now }
+// Under 24 bytes, or another version.
+#[tactic(auto, using(crate::proofs::Ranks::version_free, crate::proofs::Ranks::version_first))]
+pub(crate) fn check_version(bytes: &[u8]) -> Result<(), Fault>
+    ensures { Looks bytes.now 1 result }
 {
-    bytes.len() < 24 || header_at(bytes, VERSION) != 1
-}
-
-// The first header place whose count is above its limit, or the top-level expression's where it is empty.
-pub(crate) fn over_limit(bytes: &[u8]) -> Option<usize>
-    ensures { result ≡ first_place (limits bytes.now) }
-{
-    if header_at(bytes, CLASSES) > 64 {
-        Some(CLASSES)
-    } else if header_at(bytes, FIELDS) > 512 {
-        Some(FIELDS)
-    } else if header_at(bytes, METHODS) > 256 {
-        Some(METHODS)
-    } else if header_at(bytes, NODES) > 4000 {
-        Some(NODES)
-    } else if header_at(bytes, NAMES) > 512 {
-        Some(NAMES)
-    } else if header_at(bytes, TOP) == 0 {
-        Some(TOP)
+    if bytes.len() < 24 || header_at(bytes, VERSION) != 1 {
+        Err(Fault::Version)
     } else {
-        None
+        Ok(())
     }
 }
 
-// The first header place whose offset is not the sum of what precedes, or the names' where they lie beyond the end.
-pub(crate) fn wrong_offset(bytes: &[u8]) -> Option<usize>
-    ensures { result ≡ first_place (offsets bytes.now) }
+// Looks for the first place of a table whose test holds.
+#[tactic(auto, using(crate::proofs::Counts::first_place_skip))]
+fn check_table(table: &[(u16, bool)]) -> Result<(), usize>
+    ensures { result_err result ≡ first_place table.now }
 {
-    let fields = 24 + 6 * usize::from(header_at(bytes, CLASSES));
-    let methods = fields + 4 * usize::from(header_at(bytes, FIELDS));
-    let nodes = methods + 10 * usize::from(header_at(bytes, METHODS));
-    let names = nodes + 8 * usize::from(header_at(bytes, NODES));
-    if header_at(bytes, CLASS_PART) != 24 {
-        Some(CLASS_PART)
-    } else if usize::from(header_at(bytes, FIELD_PART)) != fields {
-        Some(FIELD_PART)
-    } else if usize::from(header_at(bytes, METHOD_PART)) != methods {
-        Some(METHOD_PART)
-    } else if usize::from(header_at(bytes, NODE_PART)) != nodes {
-        Some(NODE_PART)
-    } else if usize::from(header_at(bytes, NAME_PART)) != names || names > bytes.len() {
-        Some(NAME_PART)
-    } else {
-        None
+    for (place, is_wrong) in table {
+        if *is_wrong {
+            return Err(usize::from(*place));
+        }
     }
+    Ok(())
 }
 
-// The lowest name that is faulty, cut or the same as an earlier one, or the number after the last where bytes follow it.
-pub(crate) fn wrong_name(bytes: &[u8]) -> Option<usize>
-    ensures { Lowest (wrong_name bytes.now) result }
+// A count above its limit, or an empty top-level expression, at its header place.
+#[tactic(auto, using(crate::proofs::Ranks::limits_free, crate::proofs::Ranks::limit_first))]
+pub(crate) fn check_limits(bytes: &[u8]) -> Result<(), Fault>
+    requires { FreeBelow bytes.now 2 }
+    ensures { Looks bytes.now 2 result }
+{
+    check_table(&[
+        (CLASSES, header_at(bytes, CLASSES) > 64),
+        (FIELDS, header_at(bytes, FIELDS) > 512),
+        (METHODS, header_at(bytes, METHODS) > 256),
+        (NODES, header_at(bytes, NODES) > 4000),
+        (NAMES, header_at(bytes, NAMES) > 512),
+        (TOP, header_at(bytes, TOP) == 0),
+    ])
+    .map_err(Fault::Limit)
+}
+
+// An offset that is not the sum of what precedes, or names beyond the end, at its header place.
+#[tactic(auto, using(crate::proofs::Ranks::offsets_free, crate::proofs::Ranks::offset_first))]
+pub(crate) fn check_offsets(bytes: &[u8]) -> Result<(), Fault>
+    requires { FreeBelow bytes.now 3 }
+    ensures { Looks bytes.now 3 result }
+{
+    let part_at = |place| usize::from(header_at(bytes, place));
+    let fields = 24 + 6 * part_at(CLASSES);
+    let methods = fields + 4 * part_at(FIELDS);
+    let nodes = methods + 10 * part_at(METHODS);
+    let names = nodes + 8 * part_at(NODES);
+    check_table(&[
+        (CLASS_PART, part_at(CLASS_PART) != 24),
+        (FIELD_PART, part_at(FIELD_PART) != fields),
+        (METHOD_PART, part_at(METHOD_PART) != methods),
+        (NODE_PART, part_at(NODE_PART) != nodes),
+        (
+            NAME_PART,
+            part_at(NAME_PART) != names || names > bytes.len(),
+        ),
+    ])
+    .map_err(Fault::Offset)
+}
+
+// A name that is faulty, cut or the same as an earlier one; at the number after the last, bytes that follow it.
+#[tactic(auto, using(crate::proofs::Ranks::names_free, crate::proofs::Ranks::name_first))]
+pub(crate) fn check_names(bytes: &[u8]) -> Result<(), Fault>
+    requires { FreeBelow bytes.now 4 }
+    ensures { Looks bytes.now 4 result }
 {
     let count = usize::from(header_at(bytes, NAMES));
-    wrong_name_in(name_bytes(bytes), count)
+    check_names_in(name_bytes(bytes), count).map_err(Fault::Name)
 }
 
-// The first header place of a count that the entries' own counts do not add up to.
-pub(crate) fn wrong_total(bytes: &[u8]) -> Option<usize>
-    ensures { result ≡ first_place (totals bytes.now) }
+// A count that the entries' own counts do not add up to, at its header place.
+#[tactic(auto, using(crate::proofs::Ranks::totals_free, crate::proofs::Ranks::total_first))]
+pub(crate) fn check_totals(bytes: &[u8]) -> Result<(), Fault>
+    requires { FreeBelow bytes.now 5 }
+    ensures { Looks bytes.now 5 result }
 {
-    let part = usize::from(header_at(bytes, CLASS_PART));
-    let classes = usize::from(header_at(bytes, CLASSES));
-    if sum_words(bytes, part + 2, 6, classes) != usize::from(header_at(bytes, FIELDS)) {
-        return Some(FIELDS);
-    }
-    if sum_words(bytes, part + 4, 6, classes) != usize::from(header_at(bytes, METHODS)) {
-        return Some(METHODS);
-    }
-    let methods = usize::from(header_at(bytes, METHODS));
-    let nodes = nodes_before(bytes, methods) + usize::from(header_at(bytes, TOP));
-    if nodes != usize::from(header_at(bytes, NODES)) {
-        return Some(NODES);
-    }
-    None
+    let classes = Entries::new(bytes, CLASS_PART, CLASS_SIZE);
+    let count = header_at(bytes, CLASSES);
+    let fields = classes.sum(2, count);
+    let methods = classes.sum(4, count);
+    let nodes = nodes_before(bytes, header_at(bytes, METHODS)) + usize::from(header_at(bytes, TOP));
+    check_table(&[
+        (FIELDS, fields != u32::from(header_at(bytes, FIELDS))),
+        (METHODS, methods != u32::from(header_at(bytes, METHODS))),
+        (NODES, nodes != usize::from(header_at(bytes, NODES))),
+    ])
+    .map_err(Fault::Total)
 }
 
 fn is_no_name(bytes: &[u8], name: u16) -> bool
@@ -99,63 +119,58 @@ fn is_no_type(bytes: &[u8], number: u16) -> bool
     2 + u32::from(header_at(bytes, CLASSES)) <= u32::from(number)
 }
 
-fn is_class_wrong(bytes: &[u8], i: usize) -> bool
-    requires { i < 2 ^ 16 }
+fn is_class_wrong(bytes: &[u8], i: u16) -> bool
     ensures { result ≡ wrong_class bytes.now i }
 {
-    let part = usize::from(header_at(bytes, CLASS_PART));
-    is_no_name(bytes, word_at(bytes, part + 6 * i))
+    is_no_name(bytes, Entries::new(bytes, CLASS_PART, CLASS_SIZE).first(i))
 }
 
-fn is_field_wrong(bytes: &[u8], j: usize) -> bool
-    requires { j < 2 ^ 16 }
+fn is_field_wrong(bytes: &[u8], j: u16) -> bool
     ensures { result ≡ wrong_field bytes.now j }
 {
-    let part = usize::from(header_at(bytes, FIELD_PART));
-    is_no_name(bytes, word_at(bytes, part + 4 * j))
-        || is_no_type(bytes, word_at(bytes, part + 2 + 4 * j))
+    let fields = Entries::new(bytes, FIELD_PART, FIELD_SIZE);
+    is_no_name(bytes, fields.first(j)) || is_no_type(bytes, fields.at(2, j))
 }
 
-fn is_method_wrong(bytes: &[u8], m: usize) -> bool
-    requires { m < 2 ^ 16 }
+fn is_method_wrong(bytes: &[u8], m: u16) -> bool
     ensures { result ≡ wrong_method bytes.now m }
 {
-    let part = usize::from(header_at(bytes, METHOD_PART));
-    is_no_name(bytes, word_at(bytes, part + 10 * m))
-        || is_no_type(bytes, word_at(bytes, part + 2 + 10 * m))
-        || is_no_type(bytes, word_at(bytes, part + 4 + 10 * m))
-        || word_at(bytes, part + 6 + 10 * m) == 0
-        || word_at(bytes, part + 8 + 10 * m) == 0
+    let methods = Entries::new(bytes, METHOD_PART, METHOD_SIZE);
+    is_no_name(bytes, methods.first(m))
+        || is_no_type(bytes, methods.at(2, m))
+        || is_no_type(bytes, methods.at(4, m))
+        || methods.at(6, m) == 0
+        || methods.at(8, m) == 0
 }
 
-fn is_entry_wrong(bytes: &[u8], i: usize) -> bool
-    ensures { result ≡ wrong_entry bytes.now i }
+fn is_entry_wrong(bytes: &[u8], entry: usize) -> bool
+    ensures { result ≡ wrong_entry bytes.now entry }
 {
-    let classes = usize::from(header_at(bytes, CLASSES));
-    let fields = usize::from(header_at(bytes, FIELDS));
-    let methods = usize::from(header_at(bytes, METHODS));
-    if i < classes {
-        is_class_wrong(bytes, i)
-    } else if i < classes + fields {
-        is_field_wrong(bytes, i - classes)
-    } else if i < classes + fields + methods {
-        is_method_wrong(bytes, i - (classes + fields))
+    let fields = usize::from(header_at(bytes, CLASSES));
+    let methods = fields + usize::from(header_at(bytes, FIELDS));
+    let end = methods + usize::from(header_at(bytes, METHODS));
+    if entry < fields {
+        is_class_wrong(bytes, entry as u16)
+    } else if entry < methods {
+        is_field_wrong(bytes, (entry - fields) as u16)
     } else {
-        false
+        entry < end && is_method_wrong(bytes, (entry - methods) as u16)
     }
 }
 
-// The first entry with a name or a type that is not there, or with an empty strip.
-pub(crate) fn wrong_entry(bytes: &[u8]) -> Option<usize>
-    ensures { Lowest (wrong_entry bytes.now) result }
+// An entry with a name or a type that is not there, or with an empty strip.
+#[tactic(auto, using(crate::proofs::Ranks::entries_free, crate::proofs::Ranks::entry_first))]
+pub(crate) fn check_entries(bytes: &[u8]) -> Result<(), Fault>
+    requires { FreeBelow bytes.now 6 }
+    ensures { Looks bytes.now 6 result }
 {
     let entries = usize::from(header_at(bytes, CLASSES))
         + usize::from(header_at(bytes, FIELDS))
         + usize::from(header_at(bytes, METHODS));
-    for i in 0..entries {
-        if is_entry_wrong(bytes, i) {
-            return Some(i);
+    for entry in 0..entries {
+        if is_entry_wrong(bytes, entry) {
+            return Err(Fault::Entry(entry));
         }
     }
-    None
+    Ok(())
 }

@@ -1,57 +1,63 @@
 // The numbers of a book's file. Each function is total, as its definition is: a byte past the end counts as 0.
-ghost use Rattle.std.specs.Prelude.{◌≡◌, ℕ, ◌+◌, ◌*◌, ◌^◌, ◌<◌, ◌≤◌, length, Some, slice_index};
+ghost use Rattle.std.specs.Prelude.{◌≡◌, ◌+◌, ◌^◌, ◌<◌, ◌≤◌, MatchOption};
 ghost use Rattle.book.specs.Counting.{total};
-ghost use Rattle.book.specs.Layout.{word, entry_word, header, raw_node, name_bytes, counts_of, typed, class_count, field_count, method_count, method_nodes, class_at, field_at};
-ghost use Rattle.book.specs.Strips.{method_at};
+ghost use Rattle.book.specs.Layout.{word, entry_word, header, raw_node, name_bytes, counts_of, method_nodes, class_at, field_at};
+ghost use Rattle.book.specs.Strips.{command_strip, returned_strip, top_strip, method_at};
 
 use crate::entry::{Class, Counts, Field, Method, Strip};
 use crate::node::{Raw, Sort, Type};
 
 // The places of the header's numbers.
-pub(crate) const VERSION: usize = 0;
+pub(crate) const VERSION: u16 = 0;
 
-pub(crate) const CLASSES: usize = 1;
+pub(crate) const CLASSES: u16 = 1;
 
-pub(crate) const FIELDS: usize = 2;
+pub(crate) const FIELDS: u16 = 2;
 
-pub(crate) const METHODS: usize = 3;
+pub(crate) const METHODS: u16 = 3;
 
-pub(crate) const NODES: usize = 4;
+pub(crate) const NODES: u16 = 4;
 
-pub(crate) const NAMES: usize = 5;
+pub(crate) const NAMES: u16 = 5;
 
-pub(crate) const CLASS_PART: usize = 6;
+pub(crate) const CLASS_PART: u16 = 6;
 
-pub(crate) const FIELD_PART: usize = 7;
+pub(crate) const FIELD_PART: u16 = 7;
 
-pub(crate) const METHOD_PART: usize = 8;
+pub(crate) const METHOD_PART: u16 = 8;
 
-pub(crate) const NODE_PART: usize = 9;
+pub(crate) const NODE_PART: u16 = 9;
 
-pub(crate) const NAME_PART: usize = 10;
+pub(crate) const NAME_PART: u16 = 10;
 
-pub(crate) const TOP: usize = 11;
+pub(crate) const TOP: u16 = 11;
 
-fn byte_at(bytes: &[u8], i: usize) -> u8
-    ensures { result ≡ slice_index bytes.now i }
+// How many bytes an entry has.
+pub(crate) const CLASS_SIZE: u16 = 6;
+
+pub(crate) const FIELD_SIZE: u16 = 4;
+
+pub(crate) const METHOD_SIZE: u16 = 10;
+
+pub(crate) const NODE_SIZE: u16 = 8;
+
+// The number at a byte offset, low byte first; a byte past the end counts as 0.
+#[tactic(auto, using(std::proofs::lemmas::Grind::common_steps, std::proofs::lemmas::List::get_or_past), unfolding(crate::specs::Layout::word))]
+pub fn word_at(bytes: &[u8], offset: usize) -> u16
+    ensures { result ≡ word bytes.now offset }
 {
-    if i < bytes.len() { bytes[i] } else { 0 }
-}
-
-// The number at a byte offset, low byte first.
-pub(crate) fn word_at(bytes: &[u8], i: usize) -> u16
-    requires { i < 2 ^ 48 }
-    ensures { result ≡ word bytes.now i }
-{
-    u16::from(byte_at(bytes, i)) + 256 * u16::from(byte_at(bytes, i + 1))
+    match bytes.get(offset..) {
+        Some([low, high, ..]) => u16::from_le_bytes([*low, *high]),
+        Some([low]) => u16::from(*low),
+        _ => 0,
+    }
 }
 
 // The number at a header place.
-pub(crate) fn header_at(bytes: &[u8], place: usize) -> u16
-    requires { place < 12 }
+pub(crate) fn header_at(bytes: &[u8], place: u16) -> u16
     ensures { result ≡ header bytes.now place }
 {
-    word_at(bytes, 2 * place)
+    word_at(bytes, 2 * usize::from(place))
 }
 
 pub(crate) fn counts_of(bytes: &[u8]) -> Counts
@@ -66,30 +72,69 @@ pub(crate) fn counts_of(bytes: &[u8]) -> Counts
     }
 }
 
-// The sum of one number of each of the first `n` entries of a part, which stands in entry 0 at an offset.
-pub(crate) fn sum_words(bytes: &[u8], offset: usize, size: usize, n: usize) -> usize
-    requires { (offset + size * n < 2 ^ 48) × (n < 2 ^ 32) }
-    ensures sum { result ≡ total (entry_word bytes.now offset size) n }
-    ensures bound { result ≤ 65535 * n }
-{
-    let mut sum = 0;
-    for i in 0..n {
-        sum += usize::from(word_at(bytes, offset + size * i));
+// A part of the file: entries of one size, from an offset on.
+#[derive(Clone, Copy)]
+pub(crate) struct Entries<'a> {
+    bytes: &'a [u8],
+    offset: u16,
+    size: u16,
+}
+
+impl<'a> Entries<'a> {
+    // The entries of a part, by the header place of its offset and the size of an entry.
+    pub(crate) fn new(bytes: &'a [u8], part: u16, size: u16) -> Self
+        ensures bytes { result.bytes.now ≡ bytes.now }
+        ensures offset { result.offset ≡ header bytes.now part }
+        ensures size { result.size ≡ size }
+    {
+        let offset = header_at(bytes, part);
+        Entries {
+            bytes,
+            offset,
+            size,
+        }
     }
-    sum
+
+    // The number that entry `i` begins with.
+    pub(crate) fn first(&self, i: u16) -> u16
+        ensures { result ≡ entry_word self.now.bytes.now self.now.offset self.now.size i }
+    {
+        self.at(0, i)
+    }
+
+    // The number at a place within entry `i`.
+    pub(crate) fn at(&self, place: u16, i: u16) -> u16
+        ensures { result ≡ entry_word self.now.bytes.now (self.now.offset + place) self.now.size i }
+    {
+        let offset = usize::from(self.offset) + usize::from(place);
+        word_at(self.bytes, offset + usize::from(self.size) * usize::from(i))
+    }
+
+    // The sum of the numbers at a place within the first `n` entries.
+    #[tactic(auto, using(crate::proofs::Counts::total_more))]
+    pub(crate) fn sum(&self, place: u16, n: u16) -> u32
+        ensures { result ≡ total (entry_word self.now.bytes.now (self.now.offset + place) self.now.size) n }
+    {
+        // A loop, since of an iterator's `sum` it was not proved that the total fits.
+        let mut sum = 0;
+        for i in 0..n {
+            sum += u32::from(self.at(place, i));
+        }
+        sum
+    }
 }
 
 // Node `k` as it stands in the file.
-pub(crate) fn raw_node(bytes: &[u8], k: usize) -> Raw
-    requires { k < 2 ^ 40 }
+pub(crate) fn raw_node(bytes: &[u8], k: u16) -> Raw
     ensures { result ≡ raw_node bytes.now k }
 {
-    let part = usize::from(header_at(bytes, NODE_PART));
-    let kind = word_at(bytes, part + 8 * k);
-    let a = word_at(bytes, part + 2 + 8 * k);
-    let b = word_at(bytes, part + 4 + 8 * k);
-    let d = word_at(bytes, part + 6 + 8 * k);
-    Raw { kind, a, b, d }
+    let nodes = Entries::new(bytes, NODE_PART, NODE_SIZE);
+    Raw {
+        kind: nodes.first(k),
+        a: nodes.at(2, k),
+        b: nodes.at(4, k),
+        d: nodes.at(6, k),
+    }
 }
 
 // The bytes from the name part on.
@@ -97,90 +142,94 @@ pub(crate) fn name_bytes<'a>(bytes: &'a [u8]) -> &'a [u8]
     ensures { result.now ≡ name_bytes bytes.now }
 {
     let start = usize::from(header_at(bytes, NAME_PART));
-    if start > bytes.len() {
-        &[]
-    } else {
-        &bytes[start..]
-    }
+    bytes.get(start..).unwrap_or(&[])
 }
 
 // How many nodes the strips of the first `m` methods have together.
-pub(crate) fn nodes_before(bytes: &[u8], m: usize) -> usize
-    requires { m < 2 ^ 16 }
+#[tactic(auto, using(crate::proofs::Counts::total_strips))]
+pub(crate) fn nodes_before(bytes: &[u8], m: u16) -> usize
     ensures sum { result ≡ total (method_nodes bytes.now) m }
     ensures bound { result < 2 ^ 34 }
 {
-    let part = usize::from(header_at(bytes, METHOD_PART));
-    sum_words(bytes, part + 6, 10, m) + sum_words(bytes, part + 8, 10, m)
+    let methods = Entries::new(bytes, METHOD_PART, METHOD_SIZE);
+    methods.sum(6, m) as usize + methods.sum(8, m) as usize
 }
 
-// A type by its number.
-fn type_of(number: u16) -> Type
-    ensures { result ≡ typed number }
+// A place as a number of the file, where it is below a count.
+pub(crate) fn below(place: usize, count: u16) -> Option<u16>
+    ensures { MatchOption result (count ≤ place) (λ n. (n ≡ place) × (place < count)) }
 {
-    match number {
-        0 => Type::Int,
-        1 => Type::Boolean,
-        _ => Type::Class(number - 2),
-    }
+    u16::try_from(place).ok().filter(|n| *n < count)
 }
 
-pub(crate) fn class_at(bytes: &[u8], i: usize) -> Class
-    requires { (i < class_count bytes.now) × (i < 2 ^ 16) }
-    ensures { Some result ≡ class_at bytes.now i }
+pub(crate) fn class_at(bytes: &[u8], i: usize) -> Option<Class>
+    ensures { result ≡ class_at bytes.now i }
 {
-    let part = usize::from(header_at(bytes, CLASS_PART));
-    let name = word_at(bytes, part + 6 * i);
-    let fields = word_at(bytes, part + 2 + 6 * i);
-    let methods = word_at(bytes, part + 4 + 6 * i);
-    let first_field = sum_words(bytes, part + 2, 6, i) as u32;
-    let first_method = sum_words(bytes, part + 4, 6, i) as u32;
-    Class {
-        name,
-        first_field,
-        fields,
-        first_method,
-        methods,
-    }
+    let i = below(i, header_at(bytes, CLASSES))?;
+    let classes = Entries::new(bytes, CLASS_PART, CLASS_SIZE);
+    Some(Class {
+        name: classes.first(i),
+        first_field: classes.sum(2, i),
+        fields: classes.at(2, i),
+        first_method: classes.sum(4, i),
+        methods: classes.at(4, i),
+    })
 }
 
-pub(crate) fn field_at(bytes: &[u8], j: usize) -> Field
-    requires { (j < field_count bytes.now) × (j < 2 ^ 16) }
-    ensures { Some result ≡ field_at bytes.now j }
+pub(crate) fn field_at(bytes: &[u8], j: usize) -> Option<Field>
+    ensures { result ≡ field_at bytes.now j }
 {
-    let part = usize::from(header_at(bytes, FIELD_PART));
-    let name = word_at(bytes, part + 4 * j);
-    let typed = type_of(word_at(bytes, part + 2 + 4 * j));
-    Field { name, typed }
+    let j = below(j, header_at(bytes, FIELDS))?;
+    let fields = Entries::new(bytes, FIELD_PART, FIELD_SIZE);
+    Some(Field {
+        name: fields.first(j),
+        typed: Type::from(fields.at(2, j)),
+    })
 }
 
-pub(crate) fn method_at(bytes: &[u8], m: usize) -> Method
-    requires { (m < method_count bytes.now) × (m < 2 ^ 16) }
-    ensures { Some result ≡ method_at bytes.now m }
+// The strips of method `m`, its command's and its returned expression's, from the method's first node on.
+pub(crate) fn method_strips(bytes: &[u8], m: u16, first: usize) -> (Strip, Strip)
+    requires first { first ≡ total (method_nodes bytes.now) m }
+    requires fits { first < 2 ^ 34 }
+    ensures command { result.0 ≡ command_strip bytes.now m }
+    ensures returned { result.1 ≡ returned_strip bytes.now m }
 {
-    let part = usize::from(header_at(bytes, METHOD_PART));
-    let name = word_at(bytes, part + 10 * m);
-    let result = type_of(word_at(bytes, part + 2 + 10 * m));
-    let parameter = type_of(word_at(bytes, part + 4 + 10 * m));
-    let first = nodes_before(bytes, m);
-    let nodes = word_at(bytes, part + 6 + 10 * m);
+    let methods = Entries::new(bytes, METHOD_PART, METHOD_SIZE);
     let command = Strip {
         first,
-        nodes,
+        nodes: methods.at(6, m),
         sort: Sort::Command,
     };
-    let first = first + usize::from(nodes);
-    let nodes = word_at(bytes, part + 8 + 10 * m);
     let returned = Strip {
-        first,
-        nodes,
+        first: command.first + usize::from(command.nodes),
+        nodes: methods.at(8, m),
         sort: Sort::Expression,
     };
-    Method {
-        name,
-        result,
-        parameter,
+    (command, returned)
+}
+
+// The strip of the top-level expression.
+pub(crate) fn top_strip(bytes: &[u8]) -> Strip
+    ensures { result ≡ top_strip bytes.now }
+{
+    Strip {
+        first: nodes_before(bytes, header_at(bytes, METHODS)),
+        nodes: header_at(bytes, TOP),
+        sort: Sort::Expression,
+    }
+}
+
+pub(crate) fn method_at(bytes: &[u8], m: usize) -> Option<Method>
+    ensures { result ≡ method_at bytes.now m }
+{
+    let m = below(m, header_at(bytes, METHODS))?;
+    let methods = Entries::new(bytes, METHOD_PART, METHOD_SIZE);
+    let (command, returned) = method_strips(bytes, m, nodes_before(bytes, m));
+    Some(Method {
+        name: methods.first(m),
+        result: Type::from(methods.at(2, m)),
+        parameter: Type::from(methods.at(4, m)),
         command,
         returned,
-    }
+    })
 }

@@ -15,6 +15,7 @@ pub mod fault;
 mod faults;
 mod kinds;
 mod layout;
+mod member;
 mod names;
 pub mod node;
 mod nodes;
@@ -23,48 +24,27 @@ pub use base::ReadBook;
 use entry::{Class, Counts, Field, Method, Strip};
 use fault::Fault;
 pub use kinds::signed_number;
-use node::{Node, Sort};
-
-// The first fault of a file, if it has one.
-fn first_fault(bytes: &[u8]) -> Option<Fault>
-    ensures { MatchOption result (Clear bytes.now) (λ f. First bytes.now f) }
-{
-    if faults::is_version_wrong(bytes) {
-        return Some(Fault::Version);
-    }
-    if let Some(p) = faults::over_limit(bytes) {
-        return Some(Fault::Limit(p));
-    }
-    if let Some(p) = faults::wrong_offset(bytes) {
-        return Some(Fault::Offset(p));
-    }
-    if let Some(n) = faults::wrong_name(bytes) {
-        return Some(Fault::Name(n));
-    }
-    if let Some(p) = faults::wrong_total(bytes) {
-        return Some(Fault::Total(p));
-    }
-    if let Some(i) = faults::wrong_entry(bytes) {
-        return Some(Fault::Entry(i));
-    }
-    if let Some(k) = nodes::wrong_node(bytes) {
-        return Some(Fault::Node(k));
-    }
-    None
-}
+pub use layout::word_at;
+use names::Names;
+use node::Node;
 
 // The book that a file is, or the first fault why it is none. That every file is clear of faults or has one first fault
 // stands beside it, as a law.
+#[tactic(auto, using(crate::proofs::Ranks::free_all))]
 pub fn read<'a>(bytes: &'a [u8]) -> Result<ReadBook<'a>, Fault>
     ensures answer { MatchResult result
         (λ b. (bytes_of b ≡ bytes.now) × Clear bytes.now)
         (λ f. First bytes.now f) }
     ensures law { FaultsDecide }
 {
-    match first_fault(bytes) {
-        Some(fault) => Err(fault),
-        None => Ok(ReadBook { bytes }),
-    }
+    faults::check_version(bytes)?;
+    faults::check_limits(bytes)?;
+    faults::check_offsets(bytes)?;
+    faults::check_names(bytes)?;
+    faults::check_totals(bytes)?;
+    faults::check_entries(bytes)?;
+    nodes::check_nodes(bytes)?;
+    Ok(ReadBook { bytes })
 }
 
 impl<'a> ReadBook<'a> {
@@ -79,65 +59,45 @@ impl<'a> ReadBook<'a> {
     pub fn class(&self, i: usize) -> Option<Class>
         ensures { result ≡ class_at (bytes_of self.now) i }
     {
-        if i < usize::from(self.counts().classes) {
-            Some(layout::class_at(self.bytes, i))
-        } else {
-            None
-        }
+        layout::class_at(self.bytes, i)
     }
 
     // Field `j`, counted through all classes.
     pub fn field(&self, j: usize) -> Option<Field>
         ensures { result ≡ field_at (bytes_of self.now) j }
     {
-        if j < usize::from(self.counts().fields) {
-            Some(layout::field_at(self.bytes, j))
-        } else {
-            None
-        }
+        layout::field_at(self.bytes, j)
     }
 
     // Method `m`, counted through all classes.
     pub fn method(&self, m: usize) -> Option<Method>
         ensures { result ≡ method_at (bytes_of self.now) m }
     {
-        if m < usize::from(self.counts().methods) {
-            Some(layout::method_at(self.bytes, m))
-        } else {
-            None
-        }
+        layout::method_at(self.bytes, m)
     }
 
     // The strip of the top-level expression.
     pub fn top(&self) -> Strip
         ensures { result ≡ top_strip (bytes_of self.now) }
     {
-        let first = layout::nodes_before(self.bytes, usize::from(self.counts().methods));
-        let nodes = layout::header_at(self.bytes, layout::TOP);
-        Strip {
-            first,
-            nodes,
-            sort: Sort::Expression,
-        }
+        layout::top_strip(self.bytes)
     }
 
     // Node `k`, counted through all strips.
     pub fn node(&self, k: usize) -> Option<Node>
         ensures { result ≡ node_at (bytes_of self.now) k }
     {
-        if k < usize::from(self.counts().nodes) {
-            kinds::decode(layout::raw_node(self.bytes, k))
-        } else {
-            None
-        }
+        let k = layout::below(k, self.counts().nodes)?;
+        Node::try_from(layout::raw_node(self.bytes, k)).ok()
     }
 
     // Name `n`, as a part of the file's bytes.
-    pub fn name(&self, n: usize) -> Option<&'a [u8]>
+    pub fn name(&self, n: usize) -> Option<&'a str>
         ensures { option_map (λ x. x.now) result ≡ name_at (bytes_of self.now) n }
     {
         if n < usize::from(self.counts().names) {
-            names::nth_name(layout::name_bytes(self.bytes), n)
+            let rest = layout::name_bytes(self.bytes);
+            str::from_utf8(Names { rest }.nth(n)?).ok()
         } else {
             None
         }

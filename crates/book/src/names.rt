@@ -1,29 +1,48 @@
 // The names of a book, one after another in the name part.
-ghost use Rattle.std.specs.Prelude.{◌≡◌, ℕ, ◌<◌, true, false, Some, None, MatchOption};
-ghost use Rattle.std.specs.Option.{option_map};
+ghost use Rattle.std.specs.Prelude.{◌≡◌, ℕ, ◌<◌, true, false, Some, None, length, MatchOption};
+ghost use Rattle.std.specs.Result.{result_err};
+ghost use Rattle.std.specs.Iterator.{at_most};
 ghost use Rattle.book.specs.Counting.{any_below, Lowest};
 ghost use Rattle.book.specs.Names.{letter, letter_or_digit, letters_or_digits, spelled, cut, after_names, nth_name, same_name};
 ghost use Rattle.book.specs.Faults.{wrong_name_in};
 
-fn is_letter(b: u8) -> bool
-    ensures { result ≡ letter b }
-{
-    b >= b'a' && b <= b'z' || b >= b'A' && b <= b'Z' || b == b'_'
+// The names of some bytes, one after another, up to the first that is faulty or cut.
+#[derive(Clone, Copy)]
+pub(crate) struct Names<'a> {
+    pub(crate) rest: &'a [u8],
 }
 
-fn is_letter_or_digit(b: u8) -> bool
-    ensures { result ≡ letter_or_digit b }
+impl<'a> Iterator for Names<'a> {
+    type Item = &'a [u8];
+
+    ghost next_gives = { λ names result after. MatchOption result (cut names.rest.now ≡ None) (λ name. cut names.rest.now ≡ Some (name.now, after.rest.now)) };
+
+    ghost remaining = { λ names. at_most (length names.rest.now) };
+
+    #[tactic(auto, using(crate::proofs::Firsts::cut_shorter))]
+    fn next(&mut self) -> Option<&'a [u8]> {
+        let (name, rest) = take_name(self.rest)?;
+        self.rest = rest;
+        Some(name)
+    }
+}
+
+fn is_letter(byte: u8) -> bool
+    ensures { result ≡ letter byte }
 {
-    is_letter(b) || b >= b'0' && b <= b'9'
+    byte.is_ascii_alphabetic() || byte == b'_'
+}
+
+fn is_letter_or_digit(byte: u8) -> bool
+    ensures { result ≡ letter_or_digit byte }
+{
+    is_letter(byte) || byte.is_ascii_digit()
 }
 
 fn are_letters_or_digits(bytes: &[u8]) -> bool
     ensures { result ≡ letters_or_digits bytes.now }
 {
-    match bytes {
-        [] => true,
-        [first, rest @ ..] => is_letter_or_digit(*first) && are_letters_or_digits(rest),
-    }
+    bytes.iter().all(|byte| is_letter_or_digit(*byte))
 }
 
 fn is_spelled(bytes: &[u8]) -> bool
@@ -56,7 +75,8 @@ fn take_name<'a>(bytes: &'a [u8]) -> Option<(&'a [u8], &'a [u8])>
     }
 }
 
-fn same_bytes(x: &[u8], y: &[u8]) -> bool
+// `==`, in the words of the definition, which a closure could not be tied to.
+fn is_same(x: &[u8], y: &[u8]) -> bool
     ensures { result ≡ same_name (Some x.now) (Some y.now) }
 {
     x == y
@@ -66,49 +86,28 @@ fn same_bytes(x: &[u8], y: &[u8]) -> bool
 fn is_among(bytes: &[u8], n: usize, name: &[u8]) -> bool
     ensures { result ≡ any_below n (λ m. same_name (nth_name m bytes.now) (Some name.now)) }
 {
-    let mut rest = bytes;
-    for _m in 0..n {
-        let Some((earlier, after)) = take_name(rest) else {
-            return false;
-        };
-        if same_bytes(earlier, name) {
-            return true;
-        }
-        rest = after;
-    }
-    false
+    Names { rest: bytes }
+        .take(n)
+        .any(|earlier| is_same(earlier, name))
 }
 
-// The lowest of `count` names that is faulty, cut or the same as an earlier one, or `count` where bytes follow the last.
-pub(crate) fn wrong_name_in(bytes: &[u8], count: usize) -> Option<usize>
-    ensures { Lowest (wrong_name_in count bytes.now) result }
+// Looks for a name among the first `count` that is faulty, cut or the same as an earlier one, or for bytes after the last.
+pub(crate) fn check_names_in(bytes: &[u8], count: usize) -> Result<(), usize>
+    ensures { Lowest (wrong_name_in count bytes.now) (result_err result) }
 {
-    let mut rest = bytes;
+    let mut names = Names { rest: bytes };
+    // By number, since a fault is told by that of its name, and what is left after the last is looked at.
     for n in 0..count {
-        let Some((name, after)) = take_name(rest) else {
-            return Some(n);
+        let Some(name) = names.next() else {
+            return Err(n);
         };
         if is_among(bytes, n, name) {
-            return Some(n);
+            return Err(n);
         }
-        rest = after;
     }
-    if rest.is_empty() { None } else { Some(count) }
-}
-
-// Name `n` of some bytes, as a part of them.
-pub(crate) fn nth_name<'a>(bytes: &'a [u8], n: usize) -> Option<&'a [u8]>
-    ensures { option_map (λ x. x.now) result ≡ nth_name n bytes.now }
-{
-    let mut rest = bytes;
-    for _m in 0..n {
-        let Some((_, after)) = take_name(rest) else {
-            return None;
-        };
-        rest = after;
-    }
-    match take_name(rest) {
-        Some((name, _)) => Some(name),
-        None => None,
+    if names.rest.is_empty() {
+        Ok(())
+    } else {
+        Err(count)
     }
 }

@@ -1,6 +1,6 @@
 // The nodes of a book: the sixteen kinds, each with its numbers by name. A part is given by its node number,
 // counted through the whole node part of the file; a name by its name number, a class by its class number.
-#[derive(Clone, Copy, PartialEq, Eq, Debug)]
+#[derive(Clone, Copy, PartialEq, Eq, Debug, Default)]
 pub enum Node {
     Literal {
         value: i32,
@@ -55,15 +55,33 @@ pub enum Node {
         test: u16,
         body: u16,
     },
+    #[default]
     Skip,
 }
 
 // A type: int, boolean, or a class by its class number.
-#[derive(Clone, Copy, PartialEq, Eq, Debug)]
+#[derive(Clone, Copy, PartialEq, Eq, Debug, Default)]
 pub enum Type {
+    #[default]
     Int,
     Boolean,
     Class(u16),
+}
+
+// The type that a number of the file stands for.
+impl From<u16> for Type {
+    ghost use Rattle.std.specs.Prelude.{◌≡◌};
+    ghost use Rattle.book.specs.Layout.{typed};
+
+    ghost from_gives = { λ number result. result ≡ typed number };
+
+    fn from(number: u16) -> Type {
+        match number {
+            0 => Type::Int,
+            1 => Type::Boolean,
+            _ => Type::Class(number - 2),
+        }
+    }
 }
 
 // A node as it stands in the file: a kind and three numbers.
@@ -74,6 +92,10 @@ pub struct Raw {
     pub b: u16,
     pub d: u16,
 }
+
+// A node's kind is none of the sixteen.
+#[derive(Clone, Copy, PartialEq, Eq, Debug)]
+pub struct UnknownKind(pub u16);
 
 // What a node is: an expression, which has a value, or a command.
 #[derive(Clone, Copy, PartialEq, Eq)]

@@ -1,5 +1,5 @@
 -- A book is accepted exactly when it has a type.
-use Rattle.std.proofs.Common.{◌≡◌, ℕ, suc, ◌<◌, Bool, true, false, cond, List, Some, None, Ok, Err, Option, Result, sym, refl, ap, ◌∙◌, subst, inl, inr, arith}
+use Rattle.std.proofs.Common.{◌≡◌, ℕ, suc, ◌<◌, Bool, true, false, cond, List, Some, None, Ok, Err, Option, Result, sym, refl, ap, ◌∙◌, subst, inl, inr}
 use Rattle.std.specs.List.{slice_get}
 use Rattle.std.proofs.lemmas.Bool.{cases_lt}
 use Rattle.book.specs.declared.node.Node.{Node}
@@ -19,32 +19,33 @@ use Rattle.checker.specs.declared.fault.TypeFault.TheVariants.{Repeated, Returne
 use Rattle.checker.specs.Causes.{other_result}
 use Rattle.checked.specs.Holding.{methods_of, same_class, same_field, same_method, at_a_node, Holds}
 use Rattle.checker.specs.Checking.{same, type_in, com_in}
-use Rattle.checked.specs.Methods.{gives_type, method_in, MethodsTyped, UntypedMethod}
+use Rattle.checked.specs.Methods.{gives_type, method_in, MethodsTyped, UntypedMethod, TopTyped}
 use Rattle.checked.specs.declared.base.Decoded.{Decoded}
-use Rattle.checked.specs.Checked.{decoded_bytes, decoded_book, Decodes}
+use Rattle.checked.specs.declared.base.CheckedBook.{CheckedBook}
+use Rattle.checked.specs.Checked.{decoded_bytes, decoded_book, checked_bytes, book_of, top_type}
 use Rattle.checked.specs.Accepting.{HasType, HasNoType}
-use Rattle.checker.proofs.Inverting.{clash, same_types, then_com_ok}
+use Rattle.checker.proofs.Inverting.{same_types, then_com_ok}
 use Rattle.checker.proofs.Complete.{same_self}
-use Rattle.checker.proofs.Caused.{apart, nothing_wrong, then_com_err}
+use Rattle.checker.proofs.Caused.{apart, then_com_err}
 use Rattle.checker.proofs.Exactly.{exact}
 
 -- what stands among the methods of a class
 methods_part : {m : Name} {q : Meth} (i : ℕ) (o : Option Part) → slice_get (methods_of o) i ≡ Some (m, q) → (p : Part) × (o ≡ Some p) × (slice_get p.methods i ≡ Some (m, q))
-methods_part i None h = let z : ◌≡◌ {A = ℕ} 0 1 = cc in absurd (omega arith)
+methods_part i None h = cc
 methods_part i (Some p) h = (p, refl, h)
 
 -- the returned expression has its type, or another, or none
 gives_ok_by : (t : BType) (q : Meth) (b : Bool) → same t q.gives ≡ b → ◌≡◌ {A = Result (Unit {0}) TypeFault} (cond b (Ok tt) (Err (Returned q.result))) (Ok tt) → t ≡ q.gives
 gives_ok_by t q true e h = same_types t q.gives e
-gives_ok_by t q false e h = clash h
+gives_ok_by t q false e h = cc
 
 gives_ok : (x : Result BType TypeFault) (q : Meth) → gives_type x q ≡ Ok tt → x ≡ Ok q.gives
-gives_ok (Err e) q h = clash h
+gives_ok (Err e) q h = cc
 gives_ok (Ok t) q h = ap Ok (gives_ok_by t q (same t q.gives) refl h)
 
 module _ (P : TypeFault → Type 0) (e : TypeFault) (q : Meth) where
   gives_err_by : (t : BType) (b : Bool) → same t q.gives ≡ b → ◌≡◌ {A = Result (Unit {0}) TypeFault} (cond b (Ok tt) (Err (Returned q.result))) (Err e) → ((t ≡ q.gives → ⊥) → P (Returned q.result)) → P e
-  gives_err_by t true s h other = nothing_wrong h
+  gives_err_by t true s h other = cc
   gives_err_by t false s h other = let is : Returned q.result ≡ e = cc in subst P is (other (apart t q.gives s))
 
   gives_err : (x : Result BType TypeFault) → gives_type x q ≡ Err e → (x ≡ Err e → P e) → ((t : BType) → x ≡ Ok t → (t ≡ q.gives → ⊥) → P (Returned q.result)) → P e
@@ -59,9 +60,9 @@ module _ (B : Book) (F : Formed B) where
   type_at_top (n_less x y) = (boolean, refl)
   type_at_top (n_equal x y) = (boolean, refl)
   type_at_top (n_is_null x) = (boolean, refl)
-  type_at_top (n_this e) = let z : ◌≡◌ {A = ℕ} 0 1 = cc in absurd (omega arith)
-  type_at_top (n_parameter e) = let z : ◌≡◌ {A = ℕ} 0 1 = cc in absurd (omega arith)
-  type_at_top (n_field x e f) = let z : ◌≡◌ {A = ℕ} 0 1 = cc in absurd (omega arith)
+  type_at_top (n_this e) = cc
+  type_at_top (n_parameter e) = cc
+  type_at_top (n_field x e f) = cc
   type_at_top (n_call {c = c} {m = m} {q = q} x y e) =
       let p = method_part (B.class c) e in
       let i = find_nth p.0.methods m q p.2 in
@@ -110,13 +111,13 @@ module _ (B : Book) (F : Formed B) where
         let body = (exact B F (in_method c q.takes) q.body).commands.1 (well.body c m q found) in
         let result = ((exact B F (in_method c q.takes) q.result).types q.gives).1 (well.result c m q found) in
         let right : method_in B c q ≡ Ok tt = rw (body, result, same_self q.gives) in
-        nothing_wrong (sym right ∙ wrong)
+        cc (right, wrong)
 
   pub top_holds : (e : TypeFault) → type_in (suc B.root) B at_top B.root ≡ Err e → Holds B e
   top_holds e h = at_a_node ((exact B F at_top B.root).no_type e (ap where_held F.top_held) F.top h)
 
   pub top_refutes : (e : TypeFault) (z : BType) → type_in (suc B.root) B at_top B.root ≡ Err e → Well B z → ⊥
-  top_refutes e z h well = nothing_wrong (sym (((exact B F at_top B.root).types z).1 well.top) ∙ h)
+  top_refutes e z h well = cc (((exact B F at_top B.root).types z).1 well.top, h)
 
   -- all methods and the top are well typed
   pub well_typed : (z : BType) → ((c : ℕ) → c < B.classes → MethodsTyped B c) → type_in (suc B.root) B at_top B.root ≡ Ok z → Well B z
@@ -128,7 +129,7 @@ module _ (B : Book) (F : Formed B) where
       }
     where
       low : (c : ℕ) (p : Part) → B.class c ≡ Some p → c < B.classes
-      low c p h = elim (cases_lt c B.classes) [ inl l ↦ l | inr l ↦ let n = F.no_others c l in let z : ◌≡◌ {A = ℕ} 0 1 = cc in absurd (omega arith) ]
+      low c p h = elim (cases_lt c B.classes) [ inl l ↦ l | inr l ↦ let n = F.no_others c l in cc ]
 
       parts : (c : ℕ) (m : Name) (q : Meth) → method_of (B.class c) m ≡ Some q
           → (com_in (suc q.body) B (in_method c q.takes) q.body ≡ Ok tt) × (gives_type (type_in (suc q.result) B (in_method c q.takes) q.result) q ≡ Ok tt)
@@ -137,13 +138,13 @@ module _ (B : Book) (F : Formed B) where
           let i = find_nth p.0.methods m q p.2 in
           then_com_ok _ _ tt (all c (low c p.0 p.1) i.0 m q (ap (λ o. slice_get (methods_of o) i.0) p.1 ∙ i.1))
 
--- the ways in which checking answers, for a book decoded from a file clear of all faults
-module _ (d : Decoded) (bs : List ℕ) (same_bytes : decoded_bytes d ≡ bs) (right : Decodes d) where
+-- the ways in which checking answers, for a decoded book
+module _ (d : Decoded) (bs : List ℕ) (same_bytes : decoded_bytes d ≡ bs) where
   viewed : decoded_book d ≡ view bs
-  viewed = right.book ∙ ap view same_bytes
+  viewed = d.means ∙ ap view same_bytes
 
   well_formed : Formed (decoded_book d)
-  well_formed = subst Formed (sym right.book) (formed (decoded_bytes d) right.clear)
+  well_formed = subst Formed (sym d.means) (formed (decoded_bytes d) d.book.clear)
 
   Refused : TypeFault → Book → Type 0
   Refused e B = Holds B e × HasNoType B
@@ -163,7 +164,14 @@ module _ (d : Decoded) (bs : List ℕ) (same_bytes : decoded_bytes d ≡ bs) (ri
   top_untyped e h =
       subst (Refused e) viewed (top_holds (decoded_book d) well_formed e h, no_type (decoded_book d) well_formed (λ z names well. top_refutes (decoded_book d) well_formed e z h well))
 
-  pub accepted : (z : BType) → NamesDistinct (decoded_book d) → ((c : ℕ) → c < (decoded_book d).classes → MethodsTyped (decoded_book d) c)
-      → type_in (suc d.root) (decoded_book d) at_top d.root ≡ Ok z → (decoded_bytes d ≡ bs) × (decoded_book d ≡ view bs) × HasType (view bs) z
+  pub accepted : (z : BType) → NamesDistinct (decoded_book d) → ((c : ℕ) → c < (decoded_book d).classes → MethodsTyped (decoded_book d) c) → TopTyped (decoded_book d) z
+      → (decoded_bytes d ≡ bs) × (decoded_book d ≡ view bs) × HasType (view bs) z
   accepted z names all top =
       (same_bytes, viewed, subst (λ B. HasType B z) viewed (has_type (decoded_book d) well_formed z names (well_typed (decoded_book d) well_formed z all top)))
+
+-- what a checked book keeps of its checking gives it its type
+pub typed : (b : CheckedBook) → HasType (book_of b) (top_type b)
+typed b =
+    let formed_book = formed (checked_bytes b) b.decoded.book.clear in
+    subst (λ B. HasType B (top_type b)) (sym b.decoded.means)
+    (has_type (view (checked_bytes b)) formed_book (top_type b) b.names (well_typed (view (checked_bytes b)) formed_book (top_type b) b.methods b.top_typed))

@@ -2,6 +2,9 @@ pub mod Tables
 pub mod Checked
 pub mod Holding
 pub mod Methods
+pub mod Needing
+pub mod Typing
 pub mod Naming
 pub mod Accepting
+pub mod Checks
 pub mod Rejecting

@@ -1,10 +1,10 @@
--- The types of methods.
+-- The types of methods, and of the top-level expression.
 use Rattle.std.specs.Prelude.{◌≡◌, ℕ, suc, cond, Some, Ok, Err, Result}
 use Rattle.std.specs.List.{slice_get}
 use Rattle.book.specs.declared.node.«Type».{«Type» as BType}
 use Rattle.cool.specs.Syntax.{Name}
 use Rattle.cool.specs.Book.{Meth, Book}
-use Rattle.cool.specs.Nodes.{in_method}
+use Rattle.cool.specs.Nodes.{at_top, in_method}
 use Rattle.checker.specs.declared.fault.TypeFault.{TypeFault}
 use Rattle.checker.specs.declared.fault.TypeFault.TheVariants.{Returned}
 use Rattle.checker.specs.Checking.{same, then_com, type_in, com_in}
@@ -25,3 +25,7 @@ MethodsTyped B c = (i : ℕ) (m : Name) (q : Meth) → slice_get (methods_of (B.
 
 abbrev pub UntypedMethod : Book → ℕ → TypeFault → Type 0
 UntypedMethod B c e = (i : ℕ) × (m : Name) × (q : Meth) × (slice_get (methods_of (B.class c)) i ≡ Some (m, q)) × (method_in B c q ≡ Err e)
+
+-- The top-level expression has the type z.
+abbrev pub TopTyped : Book → BType → Type 0
+TopTyped B z = type_in (suc B.root) B at_top B.root ≡ Ok z

@@ -6,7 +6,7 @@ use Rattle.checked.specs.declared.base.CheckedBook.{CheckedBook}
 use Rattle.checked.specs.declared.rejection.Rejection.{Rejection}
 use Rattle.checked.specs.declared.rejection.Rejection.TheVariants.{File, Typing}
 use Rattle.checker.specs.Causes.{refusal as typing_refusal}
-use Rattle.checked.specs.Accepting.{Checks}
+use Rattle.checked.specs.Checks.{Checks}
 
 -- The number and the place under which a file is refused.
 abbrev pub rejection : Rejection → Refusal

@@ -6,27 +6,30 @@ ghost use Rattle.checked.specs.Methods.{method_in, MethodsTyped, UntypedMethod};
 ghost use Rattle.checked.specs.Checked.{decoded_book, meth};
 
 use crate::base::Decoded;
-use crate::lookup::{class_at, methods_of};
 use crate::table::Method;
-use crate::types::{check_command, is_same, type_of};
+use crate::types::{Typing, need};
 use checker::fault::TypeFault;
 use checker::place::Place;
 
 // A method of class `c`: its command, and its returned expression against its result type.
+#[tactic(auto, unfolding(crate::specs::Typing::type_at, crate::specs::Typing::command_at))]
 fn check_method(book: &Decoded, c: u16, method: Method) -> Result<(), TypeFault>
     ensures { result ≡ method_in (decoded_book book.now) c (meth method) }
 {
-    let place = Place::In {
-        class: c,
-        parameter: method.takes,
+    let typing = Typing {
+        book,
+        place: Place::In {
+            class: c,
+            parameter: method.takes,
+        },
     };
-    check_command(book, place, usize::from(method.body))?;
-    let t = type_of(book, place, usize::from(method.result))?;
-    if is_same(t, method.gives) {
-        Ok(())
-    } else {
-        Err(TypeFault::Returned(usize::from(method.result)))
-    }
+    typing.check_command(method.body)?;
+    let found = typing.type_of(method.result)?;
+    need(
+        found,
+        method.gives,
+        TypeFault::Returned(usize::from(method.result)),
+    )
 }
 
 // Some methods of class `c`.
@@ -47,8 +50,8 @@ fn check_class(book: &Decoded, c: u16) -> Result<(), TypeFault>
         (λ _. MethodsTyped (decoded_book book.now) c)
         (λ e. UntypedMethod (decoded_book book.now) c e) }
 {
-    match class_at(book, c) {
-        Some(class) => check_methods(book, c, methods_of(book, class)),
+    match book.class(c) {
+        Some(class) => check_methods(book, c, book.methods_of(class)),
         None => Ok(()),
     }
 }
@@ -59,7 +62,7 @@ pub(crate) fn check_classes(book: &Decoded) -> Result<(), TypeFault>
         (λ _. (c : ℕ) → c < (decoded_book book.now).classes → MethodsTyped (decoded_book book.now) c)
         (λ e. (c : ℕ) × UntypedMethod (decoded_book book.now) c e) }
 {
-    for c in 0..book.counts.classes {
+    for c in 0..book.class_count() {
         check_class(book, c)?;
     }
     Ok(())

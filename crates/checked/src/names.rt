@@ -1,15 +1,14 @@
 // Entries of one kind by one name.
-ghost use Rattle.std.specs.Prelude.{◌≡◌, ℕ, ◌<◌, map, Some, MatchOption, ◌≢◌};
-ghost use Rattle.std.specs.List.{slice_get};
+ghost use Rattle.std.specs.Prelude.{◌≡◌, ℕ, ◌+◌, ◌≤◌, ◌<◌, ◌^◌, ◌==◌, map, length, MatchOption};
+ghost use Rattle.std.specs.List.{list_any};
 ghost use Rattle.cool.specs.Accepts.{NamesDistinct};
 ghost use Rattle.checker.specs.declared.fault.TypeFault.TheVariants.{Repeated};
 ghost use Rattle.checked.specs.Naming.{AllDistinct, StandsEarlier, MembersDistinct};
 ghost use Rattle.checked.specs.Holding.{Holds};
-ghost use Rattle.checked.specs.Checked.{Decodes, own_fields, own_methods, class_there, decoded_book};
+ghost use Rattle.checked.specs.Checked.{decoded_book};
 
 use crate::base::Decoded;
-use crate::lookup::{class_at, fields_of, methods_of};
-use crate::table::{Method, stretch};
+use crate::table::Method;
 use book::entry::{Class, Field};
 
 // An entry that has a name number.
@@ -44,18 +43,11 @@ impl Named for Method {
     }
 }
 
-// The first of the first `n` entries that has a name.
-fn place_named<T: Named>(entries: &[T], n: usize, name: u16) -> Option<usize>
-    ensures { MatchOption result
-        ((k : ℕ) → k < n → slice_get (map T.Named.called entries.now) k ≢ Some name)
-        (λ i. (i < n) × (slice_get (map T.Named.called entries.now) i ≡ Some name)) }
+// Whether one of some entries has a name.
+fn is_among<T: Named>(entries: &[T], name: u16) -> bool
+    ensures { result ≡ list_any (λ e. name == T.Named.called e) entries.now }
 {
-    for i in 0..n {
-        if i < entries.len() && entries[i].name() == name {
-            return Some(i);
-        }
-    }
-    None
+    entries.iter().any(|entry| name == entry.name())
 }
 
 // An entry that has the name of an earlier one.
@@ -64,61 +56,56 @@ fn repeat<T: Named>(entries: &[T]) -> Option<usize>
         (AllDistinct (map T.Named.called entries.now))
         (λ j. StandsEarlier (map T.Named.called entries.now) j) }
 {
-    for j in 0..entries.len() {
-        if let Some(_i) = place_named(entries, j, entries[j].name()) {
+    for (j, entry) in entries.iter().enumerate() {
+        if is_among(&entries[..j], entry.name()) {
             return Some(j);
         }
     }
     None
 }
 
-// A field of class `c` that has the name of an earlier one, by its entry number.
-fn repeated_field(book: &Decoded, c: u16, class: Class) -> Option<usize>
+// The same by its number among all of the file's entries, where these stand from number `first` on.
+fn repeated_from<T: Named>(first: usize, entries: &[T]) -> Option<usize>
+    requires { first + length entries.now < 2 ^ 64 }
     ensures { MatchOption result
-        (AllDistinct (map (λ f. f.name) (own_fields book.now class)))
-        (λ i. Decodes book.now → class_there book.now c ≡ Some class → Holds (decoded_book book.now) (Repeated i)) }
+        (AllDistinct (map T.Named.called entries.now))
+        (λ n. (j : ℕ) × StandsEarlier (map T.Named.called entries.now) j × (n ≡ first + j)) }
 {
-    let first = usize::from(book.counts.classes) + class.first_field as usize;
-    let i = repeat(fields_of(book, class))?;
-    Some(first.saturating_add(i))
-}
-
-// A method of class `c` that has the name of an earlier one, by its entry number.
-fn repeated_method(book: &Decoded, c: u16, class: Class) -> Option<usize>
-    ensures { MatchOption result
-        (AllDistinct (map (λ m. m.name) (own_methods book.now class)))
-        (λ i. Decodes book.now → class_there book.now c ≡ Some class → Holds (decoded_book book.now) (Repeated i)) }
-{
-    let all_fields = usize::from(book.counts.classes) + usize::from(book.counts.fields);
-    let first = all_fields + class.first_method as usize;
-    let i = repeat(methods_of(book, class))?;
-    Some(first.saturating_add(i))
+    let j = repeat(entries)?;
+    Some(first + j)
 }
 
 // A field or a method of class `c` that has the name of an earlier one, by its entry number.
 fn repeated_member(book: &Decoded, c: u16) -> Option<usize>
-    ensures { Decodes book.now → MatchOption result
+    ensures { MatchOption result
         (MembersDistinct (decoded_book book.now) c)
         (λ i. Holds (decoded_book book.now) (Repeated i)) }
 {
-    let class = class_at(book, c)?;
-    match repeated_field(book, c, class) {
-        Some(i) => Some(i),
-        None => repeated_method(book, c, class),
-    }
+    let class = book.class(c)?;
+    let counts = book.book.counts();
+    let all_fields = usize::from(counts.classes);
+    let all_methods = all_fields + usize::from(counts.fields);
+    let field = repeated_from(
+        all_fields + class.first_field as usize,
+        book.fields_of(class),
+    );
+    let method = repeated_from(
+        all_methods + class.first_method as usize,
+        book.methods_of(class),
+    );
+    field.or(method)
 }
 
 // An entry that has the name of an earlier one of its kind: a class, or a field or a method of one class.
 pub(crate) fn repeated_entry(book: &Decoded) -> Option<usize>
-    ensures { Decodes book.now → MatchOption result
+    ensures { MatchOption result
         (NamesDistinct (decoded_book book.now))
         (λ i. Holds (decoded_book book.now) (Repeated i)) }
 {
-    let classes = book.counts.classes;
-    if let Some(c) = repeat(stretch(&book.classes, 0, usize::from(classes))) {
+    if let Some(c) = repeat(&book.classes) {
         return Some(c);
     }
-    for c in 0..classes {
+    for c in 0..book.class_count() {
         if let Some(i) = repeated_member(book, c) {
             return Some(i);
         }

@@ -1,5 +1,6 @@
 // Why a file is not accepted.
 ghost use Rattle.std.specs.Prelude.{◌≡◌};
+ghost use Rattle.checked.specs.declared.rejection.Rejection.TheVariants.{File, Typing};
 ghost use Rattle.checked.specs.Rejecting.{rejection};
 
 use book::fault::{Fault, Refusal};
@@ -12,14 +13,30 @@ pub enum Rejection {
     Typing(TypeFault),
 }
 
-impl Rejection {
+impl From<Fault> for Rejection {
+    ghost from_gives = { λ fault r. r ≡ File fault };
+
+    fn from(fault: Fault) -> Rejection {
+        Self::File(fault)
+    }
+}
+
+impl From<TypeFault> for Rejection {
+    ghost from_gives = { λ fault r. r ≡ Typing fault };
+
+    fn from(fault: TypeFault) -> Rejection {
+        Self::Typing(fault)
+    }
+}
+
+impl From<Rejection> for Refusal {
+    ghost from_gives = { λ rejected r. r ≡ rejection rejected };
+
     // The number and the place under which the file is refused.
-    pub fn refusal(self) -> Refusal
-        ensures { result ≡ rejection self }
-    {
-        match self {
-            Rejection::File(fault) => fault.refusal(),
-            Rejection::Typing(fault) => fault.refusal(),
+    fn from(rejected: Rejection) -> Refusal {
+        match rejected {
+            Rejection::File(fault) => fault.into(),
+            Rejection::Typing(fault) => fault.into(),
         }
     }
 }

@@ -1,90 +1,29 @@
 // The types of nodes, found from the types of their parts.
-ghost use Rattle.std.specs.Prelude.{◌≡◌, ℕ, suc, ◌<◌, Ok};
-ghost use Rattle.book.specs.declared.node.«Type».TheVariants.{Int, Boolean, Class};
-ghost use Rattle.cool.specs.Book.{method_of};
-ghost use Rattle.checker.specs.Checking.{same, an_int, a_boolean, of_class, of_type, member, inside, own_field, then_com, before, type_in, com_in};
-ghost use Rattle.checked.specs.Checked.{decoded_book, where_of};
+ghost use Rattle.std.specs.Prelude.{◌≡◌, Ok};
+ghost use Rattle.checker.specs.Checking.{before};
+ghost use Rattle.checked.specs.Needing.{needs};
 
 use crate::base::Decoded;
-use crate::lookup::{field_type, method_in, node_at};
 use book::node::{Node, Type};
 use checker::fault::TypeFault;
 use checker::place::Place;
 
-pub(crate) fn is_same(t: Type, u: Type) -> bool
-    ensures { result ≡ same t u }
+// A type that must be another one; else the fault.
+pub(crate) fn need(found: Type, wanted: Type, fault: TypeFault) -> Result<(), TypeFault>
+    ensures { result ≡ needs (Ok found) wanted fault }
 {
-    match (t, u) {
-        (Type::Int, Type::Int) | (Type::Boolean, Type::Boolean) => true,
-        (Type::Class(c), Type::Class(d)) => c == d,
-        _ => false,
-    }
-}
-
-// A part of node `k` that must be an int.
-fn want_int(k: usize, x: Result<Type, TypeFault>) -> Result<(), TypeFault>
-    ensures { result ≡ an_int k x (Ok tt) }
-{
-    match x? {
-        Type::Int => Ok(()),
-        _ => Err(TypeFault::Part(k)),
-    }
-}
-
-// A part of node `k` that must be a boolean.
-fn want_boolean(k: usize, x: Result<Type, TypeFault>) -> Result<(), TypeFault>
-    ensures { result ≡ a_boolean k x (Ok tt) }
-{
-    match x? {
-        Type::Boolean => Ok(()),
-        _ => Err(TypeFault::Part(k)),
-    }
-}
-
-// A part of node `k` that must be of a class.
-fn want_class(k: usize, x: Result<Type, TypeFault>) -> Result<u16, TypeFault>
-    ensures { result ≡ of_class k x (λ c. Ok c) }
-{
-    match x? {
-        Type::Class(c) => Ok(c),
-        _ => Err(TypeFault::Part(k)),
-    }
-}
-
-// An argument or a written value of node `k` that must have a type.
-fn want_type(k: usize, x: Result<Type, TypeFault>, u: Type) -> Result<(), TypeFault>
-    ensures { result ≡ of_type k x u (Ok tt) }
-{
-    if is_same(x?, u) {
-        Ok(())
-    } else {
-        Err(TypeFault::Argument(k))
-    }
-}
-
-// Two operands, both ints.
-fn two_ints(
-    k: usize,
-    x: Result<Type, TypeFault>,
-    y: Result<Type, TypeFault>,
-    t: Type,
-) -> Result<Type, TypeFault>
-    ensures { result ≡ an_int k x (an_int k y (Ok t)) }
-{
-    want_int(k, x)?;
-    want_int(k, y)?;
-    Ok(t)
+    if found == wanted { Ok(()) } else { Err(fault) }
 }
 
 // Whether the parts of a node lie before node `k`.
-fn are_before(k: usize, node: Node) -> bool
+fn are_before(k: u16, node: Node) -> bool
     ensures { result ≡ before k node }
 {
     match node {
         Node::Literal { .. } | Node::This | Node::Parameter | Node::New { .. } | Node::Skip => true,
         Node::IsNull { operand: a }
         | Node::FieldRead { target: a, .. }
-        | Node::Reading { index: a } => usize::from(a) < k,
+        | Node::Reading { index: a } => a < k,
         Node::Minus { left: a, right: b }
         | Node::Less { left: a, right: b }
         | Node::Equal { left: a, right: b }
@@ -102,231 +41,176 @@ fn are_before(k: usize, node: Node) -> bool
             first: a,
             second: b,
         }
-        | Node::While { test: a, body: b } => usize::from(a) < k && usize::from(b) < k,
+        | Node::While { test: a, body: b } => a < k && b < k,
         Node::If {
             test: a,
             then: b,
             otherwise: d,
-        } => usize::from(a) < k && usize::from(b) < k && usize::from(d) < k,
+        } => a < k && b < k && d < k,
     }
 }
 
-fn null_test(k: usize, x: Result<Type, TypeFault>) -> Result<Type, TypeFault>
-    ensures { result ≡ of_class k x (λ c. Ok Boolean) }
-{
-    want_class(k, x)?;
-    Ok(Type::Boolean)
+// Where nodes are typed: the book, and the place of their strip in it.
+#[derive(Clone, Copy)]
+pub(crate) struct Typing<'b, 'a> {
+    pub(crate) book: &'b Decoded<'a>,
+    pub(crate) place: Place,
 }
 
-// A field that may be read and written here: only one of the current class.
-fn own_field_of(book: &Decoded, place: Place, c: u16, name: u16) -> Option<Type>
-    ensures { result ≡ own_field (decoded_book book.now) (where_of place) c name }
-{
-    match place {
-        Place::Top => None,
-        Place::In { class, .. } => if c == class {
-            field_type(book, c, name)
-        } else {
-            None
-        },
-    }
-}
+impl<'b, 'a> Typing<'b, 'a> {
+    ghost use Rattle.std.specs.Prelude.{◌≡◌, Ok, Err, IfOk, IfErr};
+    ghost use Rattle.book.specs.declared.node.Node.TheVariants.{Call};
+    ghost use Rattle.checker.specs.Checking.{of_class, member, inside, own_field, type_by};
+    ghost use Rattle.checked.specs.Needing.{needs};
+    ghost use Rattle.checked.specs.Typing.{NodeAt, book_typed, place_typed, type_at, command_at};
 
-fn field_read(
-    book: &Decoded,
-    place: Place,
-    k: usize,
-    x: Result<Type, TypeFault>,
-    name: u16,
-) -> Result<Type, TypeFault>
-    ensures { result ≡ of_class k x (λ c. member k (own_field (decoded_book book.now) (where_of place) c name) (λ u. Ok u)) }
-{
-    let c = want_class(k, x)?;
-    match own_field_of(book, place, c, name) {
-        Some(t) => Ok(t),
-        None => Err(TypeFault::Member(k)),
-    }
-}
-
-fn call(
-    book: &Decoded,
-    k: usize,
-    x: Result<Type, TypeFault>,
-    y: Result<Type, TypeFault>,
-    name: u16,
-) -> Result<Type, TypeFault>
-    ensures { result ≡ of_class k x (λ c. member k (method_of ((decoded_book book.now).class c) name) (λ q. of_type k y q.takes (Ok q.gives))) }
-{
-    let c = want_class(k, x)?;
-    let Some(method) = method_in(book, c, name) else {
-        return Err(TypeFault::Member(k));
-    };
-    want_type(k, y, method.takes)?;
-    Ok(method.gives)
-}
-
-fn field_write(
-    book: &Decoded,
-    place: Place,
-    k: usize,
-    x: Result<Type, TypeFault>,
-    y: Result<Type, TypeFault>,
-    name: u16,
-) -> Result<(), TypeFault>
-    ensures { result ≡ of_class k x (λ c. member k (own_field (decoded_book book.now) (where_of place) c name) (λ u. of_type k y u (Ok tt))) }
-{
-    let c = want_class(k, x)?;
-    match own_field_of(book, place, c, name) {
-        Some(t) => want_type(k, y, t),
-        None => Err(TypeFault::Member(k)),
-    }
-}
-
-fn this_type(place: Place, k: usize) -> Result<Type, TypeFault>
-    ensures { result ≡ inside k (where_of place) (λ c u. Ok (Class c)) }
-{
-    match place {
-        Place::Top => Err(TypeFault::Top(k)),
-        Place::In { class, .. } => Ok(Type::Class(class)),
-    }
-}
-
-fn parameter_type(place: Place, k: usize) -> Result<Type, TypeFault>
-    ensures { result ≡ inside k (where_of place) (λ c u. Ok u) }
-{
-    match place {
-        Place::Top => Err(TypeFault::Top(k)),
-        Place::In { parameter, .. } => Ok(parameter),
-    }
-}
-
-fn reading_type(k: usize, x: Result<Type, TypeFault>) -> Result<Type, TypeFault>
-    ensures { result ≡ an_int k x (Ok Int) }
-{
-    want_int(k, x)?;
-    Ok(Type::Int)
-}
-
-// The type of node `k`, an expression: from its root to its parts, the node number falling.
-pub(crate) fn type_of(book: &Decoded, place: Place, k: usize) -> Result<Type, TypeFault>
-    ensures { result ≡ type_in (suc k) (decoded_book book.now) (where_of place) k }
-{
-    let Some(node) = node_at(book, k) else {
-        return Err(TypeFault::Part(k));
-    };
-    if !are_before(k, node) {
-        return Err(TypeFault::Part(k));
-    }
-    match node {
-        Node::Literal { .. } => Ok(Type::Int),
-        Node::Minus { left, right } => {
-            let x = type_of(book, place, usize::from(left));
-            let y = type_of(book, place, usize::from(right));
-            two_ints(k, x, y, Type::Int)
+    // Node `k`, whose parts must lie before it.
+    #[tactic(auto, unfolding(crate::specs::Typing::type_at, crate::specs::Typing::command_at))]
+    fn node(&self, k: u16) -> Result<Node, TypeFault>
+        ensures ok { IfOk result (NodeAt self.now k) }
+        ensures no_type { IfErr result (λ e. type_at self.now k ≡ Err e) }
+        ensures no_command { IfErr result (λ e. command_at self.now k ≡ Err e) }
+    {
+        match self.book.node(k) {
+            Some(node) if are_before(k, node) => Ok(node),
+            _ => Err(TypeFault::Part(usize::from(k))),
         }
-        Node::Less { left, right } | Node::Equal { left, right } => {
-            let x = type_of(book, place, usize::from(left));
-            let y = type_of(book, place, usize::from(right));
-            two_ints(k, x, y, Type::Boolean)
+    }
+
+    // A part that must have a type; else the fault.
+    #[cycle(types)]
+    fn typed_part(&self, part: u16, wanted: Type, fault: TypeFault) -> Result<(), TypeFault>
+        ensures { result ≡ needs (type_at self.now part) wanted fault }
+    {
+        need(self.type_of(part)?, wanted, fault)
+    }
+
+    // A part of node `k` that must be of a class.
+    #[cycle(types)]
+    fn class_part(&self, k: u16, part: u16) -> Result<u16, TypeFault>
+        ensures { result ≡ of_class k (type_at self.now part) (λ c. Ok c) }
+    {
+        match self.type_of(part)? {
+            Type::Class(class) => Ok(class),
+            _ => Err(TypeFault::Part(usize::from(k))),
         }
-        Node::IsNull { operand } => null_test(k, type_of(book, place, usize::from(operand))),
-        Node::This => this_type(place, k),
-        Node::Parameter => parameter_type(place, k),
-        Node::FieldRead { target, name } => {
-            field_read(
-                book,
-                place,
-                k,
-                type_of(book, place, usize::from(target)),
+    }
+
+    // The type of a field that node `k` may read and write: only one of the current class.
+    fn own_field(&self, k: u16, class: u16, name: u16) -> Result<Type, TypeFault>
+        ensures { result ≡ member k (own_field (book_typed self.now) (place_typed self.now) class name) (λ u. Ok u) }
+    {
+        let field = match self.place {
+            Place::In { class: current, .. } if class == current => {
+                self.book.field_type(class, name)
+            }
+            _ => None,
+        };
+        field.ok_or(TypeFault::Member(usize::from(k)))
+    }
+
+    // The class, and the parameter's type, of the method that node `k` stands in.
+    fn inside(&self, k: u16) -> Result<(u16, Type), TypeFault>
+        ensures { result ≡ inside k (place_typed self.now) (λ c u. Ok (c, u)) }
+    {
+        match self.place {
+            Place::Top => Err(TypeFault::Top(usize::from(k))),
+            Place::In { class, parameter } => Ok((class, parameter)),
+        }
+    }
+
+    // The type of a call at node `k`.
+    #[cycle(types)]
+    #[tactic(auto, using(crate::proofs::Arms::arms))]
+    fn call(&self, k: u16, target: u16, argument: u16, name: u16) -> Result<Type, TypeFault>
+        ensures { result ≡ type_by (book_typed self.now) (place_typed self.now) k (type_at self.now) (Call target argument name) }
+    {
+        let class = self.class_part(k, target)?;
+        let Some(method) = self.book.method(class, name) else {
+            return Err(TypeFault::Member(usize::from(k)));
+        };
+        self.typed_part(argument, method.takes, TypeFault::Argument(usize::from(k)))?;
+        Ok(method.gives)
+    }
+
+    // The type of node `k`, an expression: from its root to its parts, the node number falling.
+    #[cycle(types)]
+    #[tactic(auto, using(crate::proofs::Arms::arms))]
+    pub(crate) fn type_of(&self, k: u16) -> Result<Type, TypeFault>
+        ensures { result ≡ type_at self.now k }
+    {
+        let part = TypeFault::Part(usize::from(k));
+        match self.node(k)? {
+            Node::Literal { .. } => Ok(Type::Int),
+            Node::Minus { left, right } => {
+                self.typed_part(left, Type::Int, part)?;
+                self.typed_part(right, Type::Int, part)?;
+                Ok(Type::Int)
+            }
+            Node::Less { left, right } | Node::Equal { left, right } => {
+                self.typed_part(left, Type::Int, part)?;
+                self.typed_part(right, Type::Int, part)?;
+                Ok(Type::Boolean)
+            }
+            Node::IsNull { operand } => {
+                self.class_part(k, operand)?;
+                Ok(Type::Boolean)
+            }
+            Node::This => Ok(Type::Class(self.inside(k)?.0)),
+            Node::Parameter => Ok(self.inside(k)?.1),
+            Node::FieldRead { target, name } => {
+                let class = self.class_part(k, target)?;
+                self.own_field(k, class, name)
+            }
+            Node::Call {
+                target,
+                argument,
                 name,
-            )
+            } => self.call(k, target, argument, name),
+            Node::New { class } => Ok(Type::Class(class)),
+            Node::Reading { index } => {
+                self.typed_part(index, Type::Int, part)?;
+                Ok(Type::Int)
+            }
+            _ => Err(part),
         }
-        Node::Call {
-            target,
-            argument,
-            name,
-        } => {
-            let x = type_of(book, place, usize::from(target));
-            let y = type_of(book, place, usize::from(argument));
-            call(book, k, x, y, name)
-        }
-        Node::New { class } => Ok(Type::Class(class)),
-        Node::Reading { index } => reading_type(k, type_of(book, place, usize::from(index))),
-        Node::FieldWrite { .. }
-        | Node::Sequence { .. }
-        | Node::If { .. }
-        | Node::While { .. }
-        | Node::Skip => { Err(TypeFault::Part(k)) }
     }
-}
 
-fn both_commands(x: Result<(), TypeFault>, y: Result<(), TypeFault>) -> Result<(), TypeFault>
-    ensures { result ≡ then_com x y }
-{
-    x?;
-    y
-}
-
-fn branches(
-    k: usize,
-    test: Result<Type, TypeFault>,
-    x: Result<(), TypeFault>,
-    y: Result<(), TypeFault>,
-) -> Result<(), TypeFault>
-    ensures { result ≡ a_boolean k test (then_com x y) }
-{
-    want_boolean(k, test)?;
-    both_commands(x, y)
-}
-
-fn turns(k: usize, test: Result<Type, TypeFault>, x: Result<(), TypeFault>) -> Result<(), TypeFault>
-    ensures { result ≡ a_boolean k test x }
-{
-    want_boolean(k, test)?;
-    x
-}
-
-// Whether node `k` is a well typed command: from its root to its parts, the node number falling.
-pub(crate) fn check_command(book: &Decoded, place: Place, k: usize) -> Result<(), TypeFault>
-    ensures { result ≡ com_in (suc k) (decoded_book book.now) (where_of place) k }
-{
-    let Some(node) = node_at(book, k) else {
-        return Err(TypeFault::Part(k));
-    };
-    if !are_before(k, node) {
-        return Err(TypeFault::Part(k));
-    }
-    match node {
-        Node::FieldWrite {
-            target,
-            value,
-            name,
-        } => {
-            let x = type_of(book, place, usize::from(target));
-            let y = type_of(book, place, usize::from(value));
-            field_write(book, place, k, x, y, name)
+    // Whether node `k` is a well typed command: from its root to its parts, the node number falling.
+    #[tactic(auto, using(crate::proofs::Arms::arms))]
+    pub(crate) fn check_command(&self, k: u16) -> Result<(), TypeFault>
+        ensures { result ≡ command_at self.now k }
+    {
+        let part = TypeFault::Part(usize::from(k));
+        match self.node(k)? {
+            Node::FieldWrite {
+                target,
+                value,
+                name,
+            } => {
+                let class = self.class_part(k, target)?;
+                let wanted = self.own_field(k, class, name)?;
+                self.typed_part(value, wanted, TypeFault::Argument(usize::from(k)))
+            }
+            Node::Sequence { first, second } => {
+                self.check_command(first)?;
+                self.check_command(second)
+            }
+            Node::If {
+                test,
+                then,
+                otherwise,
+            } => {
+                self.typed_part(test, Type::Boolean, part)?;
+                self.check_command(then)?;
+                self.check_command(otherwise)
+            }
+            Node::While { test, body } => {
+                self.typed_part(test, Type::Boolean, part)?;
+                self.check_command(body)
+            }
+            Node::Skip => Ok(()),
+            _ => Err(part),
         }
-        Node::Sequence { first, second } => {
-            let x = check_command(book, place, usize::from(first));
-            let y = check_command(book, place, usize::from(second));
-            both_commands(x, y)
-        }
-        Node::If {
-            test,
-            then,
-            otherwise,
-        } => {
-            let t = type_of(book, place, usize::from(test));
-            let x = check_command(book, place, usize::from(then));
-            let y = check_command(book, place, usize::from(otherwise));
-            branches(k, t, x, y)
-        }
-        Node::While { test, body } => {
-            let t = type_of(book, place, usize::from(test));
-            let x = check_command(book, place, usize::from(body));
-            turns(k, t, x)
-        }
-        Node::Skip => Ok(()),
-        _ => Err(TypeFault::Part(k)),
     }
 }

@@ -14,21 +14,10 @@ use Rattle.checker.specs.Causes.{NoClass, minus_left, minus_right, less_left, le
 use Rattle.checker.specs.Checking.{same, an_int, a_boolean, of_class, of_type, member, inside, own_field, then_com, type_by, com_by, type_in, com_in}
 use Rattle.checker.proofs.Inverting.{own_field_ok}
 use Rattle.checker.proofs.Sound.{type_sound}
-use Rattle.checker.proofs.Complete.{at_node_by, formed_before}
-
-pub nothing_wrong : {A C : Type 0} {e : TypeFault} {a : A} → ◌≡◌ {A = Result A TypeFault} (Ok a) (Err e) → C
-nothing_wrong h = let z : ◌≡◌ {A = ℕ} 0 1 = cc in absurd (omega arith)
+use Rattle.checker.proofs.Complete.{same_self, at_node_by, formed_before}
 
 pub apart : {C : Type 0} (t u : BType) → same t u ≡ false → t ≡ u → C
-apart Int Int h e = let z : ◌≡◌ {A = ℕ} 0 1 = cc in absurd (omega arith)
-apart Int Boolean h e = let z : ◌≡◌ {A = ℕ} 0 1 = cc in absurd (omega arith)
-apart Int (Class d) h e = let z : ◌≡◌ {A = ℕ} 0 1 = cc in absurd (omega arith)
-apart Boolean Int h e = let z : ◌≡◌ {A = ℕ} 0 1 = cc in absurd (omega arith)
-apart Boolean Boolean h e = let z : ◌≡◌ {A = ℕ} 0 1 = cc in absurd (omega arith)
-apart Boolean (Class d) h e = let z : ◌≡◌ {A = ℕ} 0 1 = cc in absurd (omega arith)
-apart (Class c) Int h e = let z : ◌≡◌ {A = ℕ} 0 1 = cc in absurd (omega arith)
-apart (Class c) Boolean h e = let z : ◌≡◌ {A = ℕ} 0 1 = cc in absurd (omega arith)
-apart (Class c) (Class d) h e = let f : c ≡ d = cc in absurd (eqb-false c d h f)
+apart t u h e = let s = same_self u in cc
 
 -- why a test refuses: its part was refused, is not as it must be, or what follows is refused
 module _ {A : Type 0} (P : TypeFault → Type 0) (k : ℕ) (e : TypeFault) where
@@ -36,21 +25,21 @@ module _ {A : Type 0} (P : TypeFault → Type 0) (k : ℕ) (e : TypeFault) where
       → (x ≡ Err e → P e) → ((t : BType) → x ≡ Ok t → (t ≡ Int → ⊥) → P (Part k)) → (x ≡ Ok Int → r ≡ Err e → P e) → P e
   an_int_err (Err f) r h p q s = let same' : f ≡ e = cc in p (ap Err same')
   an_int_err (Ok Int) r h p q s = s refl h
-  an_int_err (Ok Boolean) r h p q s = let same' : Part k ≡ e = cc in subst P same' (q Boolean refl (λ z. let y : ◌≡◌ {A = ℕ} 0 1 = cc in absurd (omega arith)))
-  an_int_err (Ok (Class c)) r h p q s = let same' : Part k ≡ e = cc in subst P same' (q (Class c) refl (λ z. let y : ◌≡◌ {A = ℕ} 0 1 = cc in absurd (omega arith)))
+  an_int_err (Ok Boolean) r h p q s = let same' : Part k ≡ e = cc in subst P same' (q Boolean refl (λ z. cc))
+  an_int_err (Ok (Class c)) r h p q s = let same' : Part k ≡ e = cc in subst P same' (q (Class c) refl (λ z. cc))
 
   a_boolean_err : (x : Result BType TypeFault) (r : Result A TypeFault) → a_boolean k x r ≡ Err e
       → (x ≡ Err e → P e) → ((t : BType) → x ≡ Ok t → (t ≡ Boolean → ⊥) → P (Part k)) → (x ≡ Ok Boolean → r ≡ Err e → P e) → P e
   a_boolean_err (Err f) r h p q s = let same' : f ≡ e = cc in p (ap Err same')
   a_boolean_err (Ok Boolean) r h p q s = s refl h
-  a_boolean_err (Ok Int) r h p q s = let same' : Part k ≡ e = cc in subst P same' (q Int refl (λ z. let y : ◌≡◌ {A = ℕ} 0 1 = cc in absurd (omega arith)))
-  a_boolean_err (Ok (Class c)) r h p q s = let same' : Part k ≡ e = cc in subst P same' (q (Class c) refl (λ z. let y : ◌≡◌ {A = ℕ} 0 1 = cc in absurd (omega arith)))
+  a_boolean_err (Ok Int) r h p q s = let same' : Part k ≡ e = cc in subst P same' (q Int refl (λ z. cc))
+  a_boolean_err (Ok (Class c)) r h p q s = let same' : Part k ≡ e = cc in subst P same' (q (Class c) refl (λ z. cc))
 
   of_class_err : (x : Result BType TypeFault) (f : ℕ → Result A TypeFault) → of_class k x f ≡ Err e
       → (x ≡ Err e → P e) → ((t : BType) → x ≡ Ok t → NoClass t → P (Part k)) → ((c : ℕ) → x ≡ Ok (Class c) → f c ≡ Err e → P e) → P e
   of_class_err (Err g) f h p q s = let same' : g ≡ e = cc in p (ap Err same')
-  of_class_err (Ok Int) f h p q s = let same' : Part k ≡ e = cc in subst P same' (q Int refl (λ c z. let y : ◌≡◌ {A = ℕ} 0 1 = cc in absurd (omega arith)))
-  of_class_err (Ok Boolean) f h p q s = let same' : Part k ≡ e = cc in subst P same' (q Boolean refl (λ c z. let y : ◌≡◌ {A = ℕ} 0 1 = cc in absurd (omega arith)))
+  of_class_err (Ok Int) f h p q s = let same' : Part k ≡ e = cc in subst P same' (q Int refl (λ c z. cc))
+  of_class_err (Ok Boolean) f h p q s = let same' : Part k ≡ e = cc in subst P same' (q Boolean refl (λ c z. cc))
   of_class_err (Ok (Class c)) f h p q s = s c refl h
 
   typed_err_by : (t u : BType) (b : Bool) (r : Result A TypeFault) → same t u ≡ b → cond b r (Err (Argument k)) ≡ Err e → ((t ≡ u → ⊥) → P (Argument k)) → (r ≡ Err e → P e) → P e
@@ -81,7 +70,7 @@ not_own_by B d c f u true e h = inr h
 not_own_by B d c f u false e h = inl (λ t z. let s : c ≡ d = cc in eqb-false c d e s)
 
 not_own : (B : Book) (Γ : Where) (c : ℕ) (f : Name) → own_field B Γ c f ≡ None → NoField B Γ c f
-not_own B at_top c f h = inl (λ t z. let y : ◌≡◌ {A = ℕ} 0 1 = cc in absurd (omega arith))
+not_own B at_top c f h = inl (λ t z. cc)
 not_own B (in_method d u) c f h = not_own_by B d c f u (eqb c d) refl h
 
 module _ (B : Book) (formed : Formed B) (Γ : Where) where
@@ -92,36 +81,36 @@ module _ (B : Book) (formed : Formed B) (Γ : Where) where
 
     type_cause_by : (n : Node) (e : TypeFault) → B.node k ≡ Some n → is_expression n ≡ true → Each (λ a. (f : TypeFault) → t a ≡ Err f → HoldsAt B f) (expressions n)
         → type_by B Γ k t n ≡ Err e → HoldsAt B e
-    type_cause_by (Literal v) e is low ih h = nothing_wrong h
+    type_cause_by (Literal v) e is low ih h = cc
     type_cause_by (Minus a b) e is low ih h =
         an_int_err (HoldsAt B) k e (t a) _ h (ih.0 e) (λ u x ne. wrong_part is (at_place a u x) (minus_left ne))
-        (λ x h'. an_int_err (HoldsAt B) k e (t b) _ h' (ih.1.0 e) (λ u y ne. wrong_part is (at_place b u y) (minus_right ne)) (λ y z. nothing_wrong z))
+        (λ x h'. an_int_err (HoldsAt B) k e (t b) _ h' (ih.1.0 e) (λ u y ne. wrong_part is (at_place b u y) (minus_right ne)) (λ y z. cc))
     type_cause_by (Less a b) e is low ih h =
         an_int_err (HoldsAt B) k e (t a) _ h (ih.0 e) (λ u x ne. wrong_part is (at_place a u x) (less_left ne))
-        (λ x h'. an_int_err (HoldsAt B) k e (t b) _ h' (ih.1.0 e) (λ u y ne. wrong_part is (at_place b u y) (less_right ne)) (λ y z. nothing_wrong z))
+        (λ x h'. an_int_err (HoldsAt B) k e (t b) _ h' (ih.1.0 e) (λ u y ne. wrong_part is (at_place b u y) (less_right ne)) (λ y z. cc))
     type_cause_by (Equal a b) e is low ih h =
         an_int_err (HoldsAt B) k e (t a) _ h (ih.0 e) (λ u x ne. wrong_part is (at_place a u x) (equal_left ne))
-        (λ x h'. an_int_err (HoldsAt B) k e (t b) _ h' (ih.1.0 e) (λ u y ne. wrong_part is (at_place b u y) (equal_right ne)) (λ y z. nothing_wrong z))
+        (λ x h'. an_int_err (HoldsAt B) k e (t b) _ h' (ih.1.0 e) (λ u y ne. wrong_part is (at_place b u y) (equal_right ne)) (λ y z. cc))
     type_cause_by (IsNull a) e is low ih h =
-        of_class_err (HoldsAt B) k e (t a) _ h (ih.0 e) (λ u x ne. wrong_part is (at_place a u x) (null_operand ne)) (λ c x z. nothing_wrong z)
-    type_cause_by This e is low ih h = inside_err (HoldsAt B) k e Γ _ h (λ top. this_at_top is (here ∙ top)) (λ c u z. nothing_wrong z)
-    type_cause_by Parameter e is low ih h = inside_err (HoldsAt B) k e Γ _ h (λ top. parameter_at_top is (here ∙ top)) (λ c u z. nothing_wrong z)
+        of_class_err (HoldsAt B) k e (t a) _ h (ih.0 e) (λ u x ne. wrong_part is (at_place a u x) (null_operand ne)) (λ c x z. cc)
+    type_cause_by This e is low ih h = inside_err (HoldsAt B) k e Γ _ h (λ top. this_at_top is (here ∙ top)) (λ c u z. cc)
+    type_cause_by Parameter e is low ih h = inside_err (HoldsAt B) k e Γ _ h (λ top. parameter_at_top is (here ∙ top)) (λ c u z. cc)
     type_cause_by (FieldRead a f) e is low ih h =
         of_class_err (HoldsAt B) k e (t a) _ h (ih.0 e) (λ u x ne. wrong_part is (at_place a u x) (read_target ne))
         (λ c x h'. member_err (HoldsAt B) k e (own_field B Γ c f) _ h'
-        (λ none. no_field_read is (at_place a (Class c) x) (subst (λ G. NoField B G c f) (sym here) (not_own B Γ c f none))) (λ u y z. nothing_wrong z))
+        (λ none. no_field_read is (at_place a (Class c) x) (subst (λ G. NoField B G c f) (sym here) (not_own B Γ c f none))) (λ u y z. cc))
     type_cause_by (Call a b m) e is low ih h =
         of_class_err (HoldsAt B) k e (t a) _ h (ih.0 e) (λ u x ne. wrong_part is (at_place a u x) (call_target ne))
         (λ c x h'. member_err (HoldsAt B) k e (method_of (B.class c) m) _ h' (λ none. no_method is (at_place a (Class c) x) none)
-        (λ q y h''. of_type_err (HoldsAt B) k e (t b) q.takes _ h'' (ih.1.0 e) (λ u w ne. other_argument is (at_place a (Class c) x) y (at_place b u w) ne) (λ z. nothing_wrong z)))
-    type_cause_by (New c) e is low ih h = nothing_wrong h
+        (λ q y h''. of_type_err (HoldsAt B) k e (t b) q.takes _ h'' (ih.1.0 e) (λ u w ne. other_argument is (at_place a (Class c) x) y (at_place b u w) ne) (λ z. cc)))
+    type_cause_by (New c) e is low ih h = cc
     type_cause_by (Reading a) e is low ih h =
-        an_int_err (HoldsAt B) k e (t a) _ h (ih.0 e) (λ u x ne. wrong_part is (at_place a u x) (reading_index ne)) (λ x z. nothing_wrong z)
-    type_cause_by (FieldWrite a b f) e is low ih h = let z : ◌≡◌ {A = ℕ} 0 1 = cc in absurd (omega arith)
-    type_cause_by (Sequence a b) e is low ih h = let z : ◌≡◌ {A = ℕ} 0 1 = cc in absurd (omega arith)
-    type_cause_by (If a b d) e is low ih h = let z : ◌≡◌ {A = ℕ} 0 1 = cc in absurd (omega arith)
-    type_cause_by (While a b) e is low ih h = let z : ◌≡◌ {A = ℕ} 0 1 = cc in absurd (omega arith)
-    type_cause_by Skip e is low ih h = let z : ◌≡◌ {A = ℕ} 0 1 = cc in absurd (omega arith)
+        an_int_err (HoldsAt B) k e (t a) _ h (ih.0 e) (λ u x ne. wrong_part is (at_place a u x) (reading_index ne)) (λ x z. cc)
+    type_cause_by (FieldWrite a b f) e is low ih h = cc
+    type_cause_by (Sequence a b) e is low ih h = cc
+    type_cause_by (If a b d) e is low ih h = cc
+    type_cause_by (While a b) e is low ih h = cc
+    type_cause_by Skip e is low ih h = cc
 
     module _ (c : ℕ → Result (Unit {0}) TypeFault) where
       com_cause_by : (n : Node) (e : TypeFault) → B.node k ≡ Some n → is_expression n ≡ false → Each (λ a. (f : TypeFault) → t a ≡ Err f → HoldsAt B f) (expressions n)
@@ -131,25 +120,25 @@ module _ (B : Book) (formed : Formed B) (Γ : Where) where
           (λ d x h'. member_err (HoldsAt B) k e (own_field B Γ d f) _ h'
           (λ none. no_field_written is (at_place a (Class d) x) (subst (λ G. NoField B G d f) (sym here) (not_own B Γ d f none)))
           (λ w y h''. of_type_err (HoldsAt B) k e (t b) w _ h'' (ih.1.0 e)
-          (λ u v ne. other_value is (at_place a (Class d) x) (own_field_ok B Γ d f w y).2 (at_place b u v) ne) (λ z. nothing_wrong z)))
+          (λ u v ne. other_value is (at_place a (Class d) x) (own_field_ok B Γ d f w y).2 (at_place b u v) ne) (λ z. cc)))
       com_cause_by (Sequence a b) e is low ih jh h = then_com_err (HoldsAt B) e (c a) (c b) h (jh.0 e) (jh.1.0 e)
       com_cause_by (If a b d) e is low ih jh h =
           a_boolean_err (HoldsAt B) k e (t a) _ h (ih.0 e) (λ u x ne. wrong_part is (at_place a u x) (if_test ne))
           (λ x h'. then_com_err (HoldsAt B) e (c b) (c d) h' (jh.0 e) (jh.1.0 e))
       com_cause_by (While a b) e is low ih jh h =
           a_boolean_err (HoldsAt B) k e (t a) _ h (ih.0 e) (λ u x ne. wrong_part is (at_place a u x) (while_test ne)) (λ x h'. jh.0 e h')
-      com_cause_by Skip e is low ih jh h = nothing_wrong h
-      com_cause_by (Literal v) e is low ih jh h = let z : ◌≡◌ {A = ℕ} 0 1 = cc in absurd (omega arith)
-      com_cause_by (Minus a b) e is low ih jh h = let z : ◌≡◌ {A = ℕ} 0 1 = cc in absurd (omega arith)
-      com_cause_by (Less a b) e is low ih jh h = let z : ◌≡◌ {A = ℕ} 0 1 = cc in absurd (omega arith)
-      com_cause_by (Equal a b) e is low ih jh h = let z : ◌≡◌ {A = ℕ} 0 1 = cc in absurd (omega arith)
-      com_cause_by (IsNull a) e is low ih jh h = let z : ◌≡◌ {A = ℕ} 0 1 = cc in absurd (omega arith)
-      com_cause_by This e is low ih jh h = let z : ◌≡◌ {A = ℕ} 0 1 = cc in absurd (omega arith)
-      com_cause_by Parameter e is low ih jh h = let z : ◌≡◌ {A = ℕ} 0 1 = cc in absurd (omega arith)
-      com_cause_by (FieldRead a f) e is low ih jh h = let z : ◌≡◌ {A = ℕ} 0 1 = cc in absurd (omega arith)
-      com_cause_by (Call a b m) e is low ih jh h = let z : ◌≡◌ {A = ℕ} 0 1 = cc in absurd (omega arith)
-      com_cause_by (New d) e is low ih jh h = let z : ◌≡◌ {A = ℕ} 0 1 = cc in absurd (omega arith)
-      com_cause_by (Reading a) e is low ih jh h = let z : ◌≡◌ {A = ℕ} 0 1 = cc in absurd (omega arith)
+      com_cause_by Skip e is low ih jh h = cc
+      com_cause_by (Literal v) e is low ih jh h = cc
+      com_cause_by (Minus a b) e is low ih jh h = cc
+      com_cause_by (Less a b) e is low ih jh h = cc
+      com_cause_by (Equal a b) e is low ih jh h = cc
+      com_cause_by (IsNull a) e is low ih jh h = cc
+      com_cause_by This e is low ih jh h = cc
+      com_cause_by Parameter e is low ih jh h = cc
+      com_cause_by (FieldRead a f) e is low ih jh h = cc
+      com_cause_by (Call a b m) e is low ih jh h = cc
+      com_cause_by (New d) e is low ih jh h = cc
+      com_cause_by (Reading a) e is low ih jh h = cc
 
   each_map : {P Q : ℕ → Type 0} (xs : List ℕ) → ((a : ℕ) → P a → Q a) → Each P xs → Each Q xs
   each_map [] f h = tt

@@ -3,8 +3,4 @@ pub mod Sound
 pub mod Complete
 pub mod Caused
 pub mod Exactly
-pub mod Finding
 pub mod Depth
-pub mod Arms
-pub mod Tables
-pub mod Viewed

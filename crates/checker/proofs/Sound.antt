@@ -8,7 +8,7 @@ use Rattle.cool.specs.Book.{Book, Formed, ClassThere}
 use Rattle.cool.specs.Nodes.{Where, ◌∣◌⊩◌∶◌, ◌∣◌⊩◌∶com, n_literal, n_minus, n_less, n_equal, n_is_null, n_this, n_parameter, n_field, n_call, n_new, n_reading, n_assign, n_seq, n_if, n_while, n_skip}
 use Rattle.checker.specs.declared.fault.TypeFault.{TypeFault}
 use Rattle.checker.specs.Checking.{type_by, com_by, type_in, com_in}
-use Rattle.checker.proofs.Inverting.{clash, an_int_ok, a_boolean_ok, of_class_ok, of_type_ok, member_ok, inside_ok, own_field_ok, then_com_ok, at_node_ok}
+use Rattle.checker.proofs.Inverting.{an_int_ok, a_boolean_ok, of_class_ok, of_type_ok, member_ok, inside_ok, own_field_ok, then_com_ok, at_node_ok}
 
 -- an expression, from its parts
 module _ (B : Book) (Γ : Where) (k : ℕ) (t : ℕ → Result BType TypeFault) (ih : (a : ℕ) (u : BType) → t a ≡ Ok u → B ∣ Γ ⊩ B.node a ∶ u) where
@@ -61,11 +61,11 @@ module _ (B : Book) (Γ : Where) (k : ℕ) (t : ℕ → Result BType TypeFault) 
       let p = an_int_ok k (t a) _ u h in
       let e : Int ≡ u = cc in
       subst (λ w. B ∣ Γ ⊩ Some (Reading a) ∶ w) e (n_reading (ih a Int p.0))
-  typed_by (FieldWrite a b f) u there h = clash h
-  typed_by (Sequence a b) u there h = clash h
-  typed_by (If a b d) u there h = clash h
-  typed_by (While a b) u there h = clash h
-  typed_by Skip u there h = clash h
+  typed_by (FieldWrite a b f) u there h = cc
+  typed_by (Sequence a b) u there h = cc
+  typed_by (If a b d) u there h = cc
+  typed_by (While a b) u there h = cc
+  typed_by Skip u there h = cc
 
   -- a command, from its parts
   module _ (c : ℕ → Result (Unit {0}) TypeFault) (jh : (a : ℕ) → c a ≡ Ok tt → B ∣ Γ ⊩ B.node a ∶com) where
@@ -83,27 +83,27 @@ module _ (B : Book) (Γ : Where) (k : ℕ) (t : ℕ → Result BType TypeFault) 
         n_if (ih a Boolean p.0) (jh b q.0) (jh d q.1)
     com_typed_by (While a b) h = let p = a_boolean_ok k (t a) _ tt h in n_while (ih a Boolean p.0) (jh b p.1)
     com_typed_by Skip h = n_skip
-    com_typed_by (Literal v) h = clash h
-    com_typed_by (Minus a b) h = clash h
-    com_typed_by (Less a b) h = clash h
-    com_typed_by (Equal a b) h = clash h
-    com_typed_by (IsNull a) h = clash h
-    com_typed_by This h = clash h
-    com_typed_by Parameter h = clash h
-    com_typed_by (FieldRead a f) h = clash h
-    com_typed_by (Call a b m) h = clash h
-    com_typed_by (New e) h = clash h
-    com_typed_by (Reading a) h = clash h
+    com_typed_by (Literal v) h = cc
+    com_typed_by (Minus a b) h = cc
+    com_typed_by (Less a b) h = cc
+    com_typed_by (Equal a b) h = cc
+    com_typed_by (IsNull a) h = cc
+    com_typed_by This h = cc
+    com_typed_by Parameter h = cc
+    com_typed_by (FieldRead a f) h = cc
+    com_typed_by (Call a b m) h = cc
+    com_typed_by (New e) h = cc
+    com_typed_by (Reading a) h = cc
 
 module _ (B : Book) (formed : Formed B) (Γ : Where) where
   pub type_sound : (n k : ℕ) (u : BType) → type_in n B Γ k ≡ Ok u → B ∣ Γ ⊩ B.node k ∶ u
-  type_sound zero k u h = clash h
+  type_sound zero k u h = cc
   type_sound (suc n) k u h =
       let p = at_node_ok k (B.node k) _ u h in
       subst (λ o. B ∣ Γ ⊩ o ∶ u) (sym p.1) (typed_by B Γ k (type_in n B Γ) (type_sound n) p.0 u (formed.made k p.0 p.1) p.2)
 
   pub com_sound : (n k : ℕ) → com_in n B Γ k ≡ Ok tt → B ∣ Γ ⊩ B.node k ∶com
-  com_sound zero k h = clash h
+  com_sound zero k h = cc
   com_sound (suc n) k h =
       let p = at_node_ok k (B.node k) _ tt h in
       subst (λ o. B ∣ Γ ⊩ o ∶com) (sym p.1) (com_typed_by B Γ k (type_in n B Γ) (type_sound n) (com_in n B Γ) (com_sound n) p.0 p.2)

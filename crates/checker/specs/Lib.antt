@@ -1,3 +1,3 @@
 pub mod Causes
 pub mod Checking
-pub mod Checked
+pub mod Place

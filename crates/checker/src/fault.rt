@@ -21,12 +21,12 @@ pub enum TypeFault {
     Returned(usize),
 }
 
-impl TypeFault {
+impl From<TypeFault> for Refusal {
+    ghost from_gives = { λ fault r. r ≡ refusal fault };
+
     // The number and the place under which the fault is refused.
-    pub fn refusal(self) -> Refusal
-        ensures { result ≡ refusal self }
-    {
-        let (number, place) = match self {
+    fn from(fault: TypeFault) -> Refusal {
+        let (number, place) = match fault {
             TypeFault::Repeated(entry) => (11, entry),
             TypeFault::Part(node) => (12, node),
             TypeFault::Member(node) => (13, node),

@@ -117,7 +117,7 @@ module _ (bs : List ℕ) (clear : Clear bs) where
 
   -- the top root
   top : ExpressionAt (view bs) (root_of (top_strip bs))
-  top = let sum = nodes_add_up bs clear in root_there bs clear (top_strip bs) (some_top bs clear) (omega arith) (proper_top bs _ _ refl refl)
+  top = let sum = nodes_add_up bs clear in root_there bs clear (top_strip bs) (some_top bs clear) (omega arith) (proper_top bs)
 
   top_held : holding bs (root_of (top_strip bs)) ≡ None
   top_held =
@@ -153,8 +153,8 @@ module _ (bs : List ℕ) (clear : Clear bs) where
         let r = method_right bs clear m h in
         let sum = nodes_add_up bs clear in
         let fits = total_mono (method_nodes bs) (suc m) (method_count bs) (omega arith) in (
-          root_there bs clear (command_strip bs m) r.command (omega arith) (proper_command bs m _ _ h refl refl),
-          root_there bs clear (returned_strip bs m) r.returned (omega arith) (proper_returned bs m _ _ h refl refl),
+          root_there bs clear (command_strip bs m) r.command (omega arith) (proper_command bs m h),
+          root_there bs clear (returned_strip bs m) r.returned (omega arith) (proper_returned bs m h),
         )
 
     roots_held : (c : ℕ) → owner (class_methods bs) (class_count bs) m ≡ Some c → (holding bs (method bs m).body ≡ Some (c, method bs m)) × (holding bs (method bs m).result ≡ Some (c, method bs m))

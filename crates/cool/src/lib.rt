@@ -12,43 +12,31 @@ ghost use Rattle.cool.specs.Says.{OneProgram};
 ghost use Rattle.cool.specs.Accepts.{AcceptsExactly};
 
 // A program gives rise to at most one class environment and type.
-pub fn types_are_unique() -> u8
+pub fn types_are_unique()
     ensures { (p : Program) → SameType p p }
-{
-    0
-}
+{}
 
 // The book that a file clear of all faults is: it is well formed.
-pub fn clear_files_are_formed() -> u8
+pub fn clear_files_are_formed()
     ensures { (bs : List ℕ) → Clear bs → Formed (view bs) }
-{
-    0
-}
+{}
 
 // A file clear of all faults stands for one program, and only one.
-pub fn clear_files_stand_for_one_program() -> u8
+pub fn clear_files_stand_for_one_program()
     ensures { (bs : List ℕ) → Clear bs → OneProgram (view bs) }
-{
-    0
-}
+{}
 
 // So does every well-formed book, whatever its bytes.
-pub fn books_stand_for_one_program() -> u8
+pub fn books_stand_for_one_program()
     ensures { (B : Book) → Formed B → OneProgram B }
-{
-    0
-}
+{}
 
 // Once class names are distinct, types by class number and types by class name are one to one.
-pub fn class_names_tell_classes_apart() -> u8
+pub fn class_names_tell_classes_apart()
     ensures { (B : Book) → ClassesDistinct B → TypesOneToOne B }
-{
-    0
-}
+{}
 
 // The program that a book stands for has a type exactly when names are distinct and the nodes are well typed.
-pub fn well_typed_nodes_are_accepted() -> u8
+pub fn well_typed_nodes_are_accepted()
     ensures { (B : Book) → Formed B → AcceptsExactly B }
-{
-    0
-}
+{}

@@ -8,7 +8,7 @@ use Rattle.store.specs.declared.Value.{Value}
 use Rattle.store.specs.declared.Value.TheVariants.{Handle}
 use Rattle.store.specs.Meaning.{Rec, Store, Means, store, room, added, made, Makes, Bounded}
 use Rattle.cool.specs.Syntax.{Name}
-use Rattle.cool.specs.Book.{Part}
+use Rattle.cool.specs.Book.{Part, fields_of}
 use Rattle.checked.specs.Checked.{named_field}
 use Rattle.machine.specs.declared.state.Around.{Around}
 use Rattle.machine.specs.declared.state.Hand.TheVariants.{Go, Have}
@@ -45,17 +45,22 @@ module _ (G : Given) (k c : ℕ) (ε : Around) (ρ : List Row) (is : G.book.node
   pub no_class : (S : Store) → G.book.class c ≡ None → step G (state (Go k) ε ρ S) ≡ misfit
   no_class S e = at_new S ∙ misfit_at _ e
 
-  pub no_room : (p : Part) (m n : Means) → G.book.class c ≡ Some p → Makes m c (first_values p.fields) None n → step G (state (Go k) ε ρ (store m)) ≡ ends 34 k
-  no_room p m n e h =
-      at_new (store m) ∙ goes_on _ p e
-      ∙ unless_false 34 k (makes c) (ap (room (store m)) (sym (values_length p.fields)) ∙ h.0)
+  -- of the class's part and its fields, as they were looked up
+  module _ (p : Part) (fs : List (Name × BType)) (there : Some p ≡ G.book.class c) (own : fs ≡ fields_of (G.book.class c)) where
+    same_fields : fs ≡ p.fields
+    same_fields = own ∙ ap fields_of (sym there)
 
-  pub makes_one : (p : Part) (m n : Means) (l : ℕ) → G.book.class c ≡ Some p → Makes m c (first_values p.fields) (Some l) n → Bounded (store n)
-      → Line G (state (Go k) ε ρ (store m)) (state (Have (Handle l)) ε ρ (store n))
-  makes_one p m n l e h b =
-      let x = made c (first_values p.fields) in
-      let there : (store n).look l ≡ Some x = ap (λ (S : Store). S.look l) h.2 ∙ found_added (store m) l x in
-      let line : Line G (state (Go k) ε ρ (store m)) (state (Have (Handle l)) ε ρ (added (store m) l x)) =
-      line_make l is e (ap (room (store m)) (sym (values_length p.fields)) ∙ h.0) (b.low_handles l x there) h.1 in
-      let P : Store → Type 0 = λ S. Line G (state (Go k) ε ρ (store m)) (state (Have (Handle l)) ε ρ S) in
-      subst P (sym h.2) line
+    pub no_room : (m n : Means) → Makes m c (first_values fs) None n → step G (state (Go k) ε ρ (store m)) ≡ ends 34 k
+    no_room m n h =
+        at_new (store m) ∙ goes_on _ p (sym there)
+        ∙ unless_false 34 k (makes c) (ap (room (store m)) (sym (ap length same_fields) ∙ sym (values_length fs)) ∙ h.0)
+
+    pub makes_one : (m n : Means) (l : ℕ) → Makes m c (first_values fs) (Some l) n → Bounded (store n)
+        → Line G (state (Go k) ε ρ (store m)) (state (Have (Handle l)) ε ρ (store n))
+    makes_one m n l h b =
+        let x = made c (first_values fs) in
+        let found : (store n).look l ≡ Some x = ap (λ (S : Store). S.look l) h.2 ∙ found_added (store m) l x in
+        let P : Store → Type 0 = λ S. Line G (state (Go k) ε ρ (store m)) (state (Have (Handle l)) ε ρ S) in
+        let Q : List (Name × BType) → Type 0 = λ gs. Line G (state (Go k) ε ρ (store m)) (state (Have (Handle l)) ε ρ (added (store m) l (made c (first_values gs)))) in
+        let line : Q p.fields = line_make l is (sym there) (ap (room (store m)) (sym (ap length same_fields) ∙ sym (values_length fs)) ∙ h.0) (b.low_handles l x found) h.1 in
+        subst P (sym h.2) (subst Q (sym same_fields) line)

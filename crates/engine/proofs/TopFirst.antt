@@ -1,11 +1,16 @@
 -- A pile's items have the top row last, the machine's rows have it first.
-use Rattle.std.proofs.Common.{◌≡◌, ◌-◌, Bool, true, false, cond, ltb, List, [], ◌∷◌, ◌++◌, reverse, length, set, Some, sym, refl, ap, ◌∙◌, arith}
+use Rattle.std.proofs.Common.{◌≡◌, ◌-◌, true, cond, ltb, List, [], ◌∷◌, ◌++◌, reverse, length, set, Some, None, Option, sym, refl, ap, ◌∙◌, arith}
 use Rattle.std.proofs.lemmas.List.{reverse-append, reverse-reverse, length_push, take_at, set_at}
 use Rattle.std.proofs.lemmas.Bool.Decides.{nat_tests}
 use Rattle.std.specs.List.{slice_get}
 use Rattle.pile.specs.Pile.{last, without_last}
 use Rattle.machine.specs.declared.state.Row.{Row}
-use Rattle.engine.specs.Moves.{top_of, below, with_top}
+use Rattle.engine.specs.Moves.{below}
+
+-- the top row, if there is one
+abbrev pub top_of : List Row → Option Row
+top_of [] = None
+top_of (q ∷ ρ) = Some q
 
 nth_push : (zs : List Row) (y : Row) → slice_get (zs ++ y ∷ []) (length zs) ≡ Some y
 nth_push [] y = refl
@@ -31,12 +36,8 @@ off_is xs (y ∷ ys) e =
     ∙ ap reverse (take_at (reverse ys) (y ∷ []) _ (sym (last_place (reverse ys) y)))
     ∙ reverse-reverse ys
 
-pub push_is : (xs : List Row) (x : Row) → reverse (xs ++ x ∷ []) ≡ x ∷ reverse xs
+push_is : (xs : List Row) (x : Row) → reverse (xs ++ x ∷ []) ≡ x ∷ reverse xs
 push_is xs x = reverse-append xs (x ∷ [])
-
-pub pushed_is : (xs : List Row) (x : Row) (b : Bool) → reverse (cond b (xs ++ x ∷ []) xs) ≡ cond b (x ∷ reverse xs) (reverse xs)
-pushed_is xs x true = push_is xs x
-pushed_is xs x false = refl
 
 set_last : (zs : List Row) (x y : Row) → set (zs ++ y ∷ []) (length (zs ++ y ∷ []) - 1) x ≡ zs ++ x ∷ []
 set_last zs x y = set_at zs y [] x _ (sym (last_place zs y))
@@ -44,9 +45,8 @@ set_last zs x y = set_at zs y [] x _ (sym (last_place zs y))
 some_items : (zs : List Row) (y : Row) → ltb 0 (length (zs ++ y ∷ [])) ≡ true
 some_items zs y = let e = length_push zs y in grind (arith, nat_tests)
 
-pub replaced_is : (xs ys : List Row) (x : Row) → reverse xs ≡ ys → reverse (cond (ltb 0 (length xs)) (set xs (length xs - 1) x) xs) ≡ with_top x ys
-replaced_is xs [] x e = ap (λ v. reverse (cond (ltb 0 (length v)) (set v (length v - 1) x) v)) (no_items xs e)
-replaced_is xs (y ∷ ys) x e =
+pub replaced_is : (xs ys : List Row) (x y : Row) → reverse xs ≡ y ∷ ys → reverse (cond (ltb 0 (length xs)) (set xs (length xs - 1) x) xs) ≡ x ∷ ys
+replaced_is xs ys x y e =
     let zs = reverse ys in
     ap (λ v. reverse (cond (ltb 0 (length v)) (set v (length v - 1) x) v)) (top_last xs y ys e)
     ∙ ap (λ b. reverse (cond b (set (zs ++ y ∷ []) (length (zs ++ y ∷ []) - 1) x) (zs ++ y ∷ []))) (some_items zs y)

@@ -1,7 +1,6 @@
 -- What a move comes to on the machine, and what the code of one step owes.
-use Rattle.std.specs.Prelude.{◌≡◌, ℕ, Bool, true, false, cond, List, [], ◌∷◌, ℤ, is_some, Some, None, Option}
+use Rattle.std.specs.Prelude.{◌≡◌, ℕ, Bool, true, false, cond, List, [], ◌∷◌, is_some, Some, None, Option}
 use Rattle.store.specs.declared.Value.{Value}
-use Rattle.store.specs.declared.Value.TheVariants.{Int, Boolean, Null, Handle}
 use Rattle.store.specs.Meaning.{Rec, Store, written, value_at}
 use Rattle.cool.specs.Syntax.{Name}
 use Rattle.cool.specs.Book.{Meth, Book, fields_of, method_of, place}
@@ -18,18 +17,10 @@ use Rattle.engine.specs.declared.moves.Move.TheVariants.{TakeOff, Stay, Enter, L
 use Rattle.engine.specs.declared.moves.Stepped.{Stepped}
 use Rattle.engine.specs.declared.moves.Stepped.TheVariants as came
 
--- The top row, the rows below it, and the rows with another on top.
-abbrev pub top_of : List Row → Option Row
-top_of [] = None
-top_of (q ∷ ρ) = Some q
-
+-- The rows below the top one.
 abbrev pub below : List Row → List Row
 below [] = []
 below (q ∷ ρ) = ρ
-
-abbrev pub with_top : Row → List Row → List Row
-with_top x [] = []
-with_top x (q ∷ ρ) = x ∷ ρ
 
 -- Nothing is left to do: a value, or done, in hand and no rows.
 abbrev pub at_rest : Hand → List Row → Bool
@@ -38,40 +29,6 @@ at_rest (Have v) [] = true
 at_rest (Have v) (q ∷ ρ) = false
 at_rest Done [] = true
 at_rest Done (q ∷ ρ) = false
-
--- The int, the two ints, the boolean or the handle that values are, if they are.
-abbrev pub int_of : Value → Option ℤ
-int_of (Int n) = Some n
-int_of (Boolean b) = None
-int_of Null = None
-int_of (Handle l) = None
-
-abbrev pub ints_of : Value → Value → Option (ℤ × ℤ)
-ints_of (Int m) (Int n) = Some (m, n)
-ints_of (Int m) (Boolean b) = None
-ints_of (Int m) Null = None
-ints_of (Int m) (Handle l) = None
-ints_of (Boolean b) v = None
-ints_of Null v = None
-ints_of (Handle l) v = None
-
-abbrev pub boolean_of : Value → Option Bool
-boolean_of (Int n) = None
-boolean_of (Boolean b) = Some b
-boolean_of Null = None
-boolean_of (Handle l) = None
-
-abbrev pub is_null : Value → Bool
-is_null (Int n) = false
-is_null (Boolean b) = false
-is_null Null = true
-is_null (Handle l) = false
-
-abbrev pub handle_of : Value → Option ℕ
-handle_of (Int n) = None
-handle_of (Boolean b) = None
-handle_of Null = None
-handle_of (Handle l) = Some l
 
 -- The place of a field, and the method of a name, in the class that a record has.
 abbrev pub place_in : Book → Option Rec → Name → Option ℕ
@@ -108,15 +65,16 @@ abbrev pub DoneMove : Given → Frame → ℕ → Around → Store → Option Mo
 DoneMove G f k ε S r = ComesTo r k ε S (λ ρ. step_done G f k ε ρ S)
 
 -- An outcome that makes no record is carried out: the rows ρ and the store S before it, ρ' and S' after it.
-abbrev pub CarriedOut : Outcome → List Row → Store → Stepped → List Row → Store → Type 0
-CarriedOut o ρ S (came.Next x ε) ρ' S' = o ≡ next (state x ε ρ' S')
-CarriedOut o ρ S (came.Ends e) ρ' S' = (o ≡ ends (end_number e) (end_node e)) × (ρ' ≡ ρ) × (S' ≡ S)
-CarriedOut o ρ S came.Finished ρ' S' = (o ≡ finished) × (ρ' ≡ ρ) × (S' ≡ S)
-CarriedOut o ρ S came.Misfit ρ' S' = (o ≡ misfit) × (ρ' ≡ ρ) × (S' ≡ S)
+abbrev pub CarriedOut : Outcome → List Row → Store → Option Stepped → List Row → Store → Type 0
+CarriedOut o ρ S (Some (came.Next x ε)) ρ' S' = o ≡ next (state x ε ρ' S')
+CarriedOut o ρ S (Some (came.Ends e)) ρ' S' = (o ≡ ends (end_number e) (end_node e)) × (ρ' ≡ ρ) × (S' ≡ S)
+CarriedOut o ρ S (Some came.Finished) ρ' S' = (o ≡ finished) × (ρ' ≡ ρ) × (S' ≡ S)
+CarriedOut o ρ S None ρ' S' = (o ≡ misfit) × (ρ' ≡ ρ) × (S' ≡ S)
 
--- One step from the hand x, object and parameter ε, rows ρ and store S: a line, or the outcome that is none.
-abbrev pub Steps : Given → Hand → Around → List Row → Store → Stepped → List Row → Store → Type 0
-Steps G x ε ρ S (came.Next y δ) ρ' S' = Line G (state x ε ρ S) (state y δ ρ' S')
-Steps G x ε ρ S (came.Ends e) ρ' S' = (step G (state x ε ρ S) ≡ ends (end_number e) (end_node e)) × (ρ' ≡ ρ) × (S' ≡ S)
-Steps G x ε ρ S came.Finished ρ' S' = (step G (state x ε ρ S) ≡ finished) × (ρ' ≡ ρ) × (S' ≡ S)
-Steps G x ε ρ S came.Misfit ρ' S' = (step G (state x ε ρ S) ≡ misfit) × (ρ' ≡ ρ) × (S' ≡ S)
+-- One step from the hand x, object and parameter ε, rows ρ and store S: a line, or the outcome that is none; no step is a
+-- misfit.
+abbrev pub Steps : Given → Hand → Around → List Row → Store → Option Stepped → List Row → Store → Type 0
+Steps G x ε ρ S (Some (came.Next y δ)) ρ' S' = Line G (state x ε ρ S) (state y δ ρ' S')
+Steps G x ε ρ S (Some (came.Ends e)) ρ' S' = (step G (state x ε ρ S) ≡ ends (end_number e) (end_node e)) × (ρ' ≡ ρ) × (S' ≡ S)
+Steps G x ε ρ S (Some came.Finished) ρ' S' = (step G (state x ε ρ S) ≡ finished) × (ρ' ≡ ρ) × (S' ≡ S)
+Steps G x ε ρ S None ρ' S' = (step G (state x ε ρ S) ≡ misfit) × (ρ' ≡ ρ) × (S' ≡ S)

@@ -6,13 +6,13 @@ ghost use Rattle.checked.specs.Checked.{book_of};
 ghost use Rattle.engine.specs.Runs.{given};
 ghost use Rattle.engine.specs.Calls.{fresh, too_far, Begins, Advances, WorksNothing, Settles};
 
-use crate::base::{Run, SettledRun, Steps};
+use crate::base::{Given, Run, SettledRun, Steps};
 use crate::refused::Refused;
-use crate::work::work;
 use checked::CheckedBook;
 use machine::state::{Around, End, Hand, Row};
 use numbers::NumberRule;
 use pile::Pile;
+use std::marker::PhantomData;
 use store::ObjectStore;
 
 const MOST_PLACES: usize = 4096;
@@ -24,7 +24,7 @@ const MOST_STEPS: Steps = 4_000_000_000;
 fn are_fresh(rows: &Pile<Row>) -> bool
     ensures { result ≡ fresh rows.now }
 {
-    rows.height() == 0 && 1 <= rows.places() && rows.places() <= MOST_PLACES
+    rows.height() == 0 && (1..=MOST_PLACES).contains(&rows.places())
 }
 
 fn has_records<S: ObjectStore>(objects: &S) -> bool
@@ -84,8 +84,13 @@ pub fn advance<S: ObjectStore, N: NumberRule>(
     if rows.places() != run.places {
         return Err(Refused::WrongRows);
     }
+    let given = Given::<N> {
+        book,
+        readings,
+        rule: PhantomData,
+    };
     match run.end {
-        End::Unfinished => work::<S, N>(run, book, readings, rows, objects, allowance),
+        End::Unfinished => run.work(&given, rows, objects, allowance),
         _ => Ok(()),
     }
 }

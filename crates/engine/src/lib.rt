@@ -8,15 +8,13 @@ mod go;
 mod have;
 mod make;
 mod moves;
-mod operands;
 mod perform;
 pub mod question;
+mod readings;
 mod records;
 pub mod refused;
-mod rows;
 mod slip;
 mod step;
-mod values;
 mod work;
 
 pub use base::{Run, SettledRun, Steps};

@@ -34,7 +34,7 @@ pub enum Move {
     Ends(End),
 }
 
-// What a step came to.
+// What a step came to, where a line applies.
 #[derive(Clone, Copy)]
 pub enum Stepped {
     // a line: hand, and object and parameter, are now these
@@ -43,6 +43,4 @@ pub enum Stepped {
     Ends(End),
     // no rows were left: no step
     Finished,
-    // no line applies: no step
-    Misfit,
 }

@@ -2,10 +2,9 @@
 ghost use Rattle.engine.specs.Telling.{Questions};
 
 use crate::base::{Run, SettledRun, Steps};
-use machine::state::End;
 
 // How a run stands: the steps worked since begin, the number of its end (1 while it has none), and the end's node (0
-// below end 31).
+// below end 31). Numbers and not the `End`, since that is how a run is told to whoever asks.
 #[derive(Clone, Copy, PartialEq, Eq, Debug)]
 pub struct Told {
     pub steps: Steps,
@@ -18,19 +17,10 @@ impl Run {
     pub fn question(&self) -> Told
         ensures { Questions self.now result }
     {
-        let (end, node) = match self.end {
-            End::Unfinished => (1, 0),
-            End::Finished => (0, 0),
-            End::NullTarget(node) => (31, node),
-            End::NoReading(node) => (32, node),
-            End::BeyondEnds(node) => (33, node),
-            End::NoRoom(node) => (34, node),
-            End::NoPlace(node) => (35, node),
-        };
         Told {
             steps: self.steps,
-            end,
-            node,
+            end: self.end.number(),
+            node: self.end.node().unwrap_or(0),
         }
     }
 }

@@ -1,6 +1,5 @@
 // Why a call was refused: what its caller brought on.
 ghost use Rattle.std.specs.Prelude.{◌≡◌};
-ghost use Rattle.engine.specs.Refusals.{refusal};
 
 use book::fault::Refusal;
 
@@ -16,12 +15,14 @@ pub enum Refused {
     TooFar,
 }
 
-impl Refused {
-    // The number and the place under which the call is refused.
-    pub fn refusal(self) -> Refusal
-        ensures { result ≡ refusal self }
-    {
-        let number = match self {
+// The number and the place under which a call is refused.
+impl From<Refused> for Refusal {
+    ghost use Rattle.engine.specs.Refusals.{refusal};
+
+    ghost from_gives = { λ refused given. given ≡ refusal refused };
+
+    fn from(refused: Refused) -> Refusal {
+        let number = match refused {
             Refused::StoreHasRecords => 21,
             Refused::WrongRows => 22,
             Refused::Misfit => 23,

@@ -6,7 +6,7 @@ use crate::base::SettledRun;
 use checked::CheckedBook;
 use numbers::NumberRule;
 use pile::Pile;
-use slips::{SlipRefused, write_slip};
+use slips::{Outcome, SlipRefused, write_slip};
 use store::ObjectStore;
 
 impl SettledRun {
@@ -21,6 +21,11 @@ impl SettledRun {
         ensures { Prints (book_of book.now) (top_type book.now) N.NumberRule.rule (S.ObjectStore.means objects.now) self.now.0 found.old out.old result found.new out.new }
     {
         let run = &self.0;
-        write_slip::<S, N>(run.end, run.steps, run.hand, book, objects, found, out)
+        let outcome = Outcome {
+            end: run.end,
+            steps: run.steps,
+            hand: run.hand,
+        };
+        write_slip::<S, N>(outcome, book, objects, found, out)
     }
 }

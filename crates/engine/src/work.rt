@@ -1,24 +1,32 @@
 // Working a run.
 ghost use Rattle.std.specs.Prelude.{◌≡◌, ◌+◌, ◌<◌, ◌≤◌};
 ghost use Rattle.pile.specs.Pile.{size, Kept};
-ghost use Rattle.checked.specs.Checked.{book_of};
 ghost use Rattle.machine.specs.declared.state.End.TheVariants.{Unfinished};
-ghost use Rattle.engine.specs.Runs.{rows_of, state_of, given, counted, gone_on, ended_with};
+ghost use Rattle.engine.specs.Runs.{rows_of, state_of, given_by, counted, gone_on, ended_with};
 ghost use Rattle.engine.specs.Moves.{at_rest};
 ghost use Rattle.engine.specs.Calls.{WorkedFrom};
 
-use crate::base::Run;
+use crate::base::{Given, Run};
 use crate::moves::Stepped;
 use crate::refused::Refused;
-use crate::step;
-use checked::CheckedBook;
 use machine::state::{Around, End, Hand, Row};
 use numbers::NumberRule;
 use pile::Pile;
 use store::ObjectStore;
 
+// Nothing is left to do.
+fn is_finished(hand: Hand, rows: &Pile<Row>) -> bool
+    ensures { result ≡ at_rest hand (rows_of rows.now) }
+{
+    match hand {
+        Hand::Go(_) => false,
+        Hand::Have(_) | Hand::Done => rows.height() == 0,
+    }
+}
+
 impl Run {
-    // One step more is worked.
+    // One step more is worked. That there is room for it is asked here and below, and is no fact of a run's type: a run may
+    // stand at the most steps.
     fn count(&mut self)
         requires { self.old.steps < 4000000000 }
         ensures { self.new ≡ counted self.old }
@@ -44,51 +52,38 @@ impl Run {
         self.count();
         self.end = end;
     }
-}
 
-// Nothing is left to do.
-fn is_finished(hand: Hand, rows: &Pile<Row>) -> bool
-    ensures { result ≡ at_rest hand (rows_of rows.now) }
-{
-    match hand {
-        Hand::Go(_) => false,
-        Hand::Have(_) | Hand::Done => rows.height() == 0,
-    }
-}
-
-// Steps until the allowance is used up, or the run is finished or ends, or no line applies.
-pub(crate) fn work<S: ObjectStore, N: NumberRule>(
-    run: &mut Run,
-    book: &CheckedBook,
-    readings: &[i32],
-    rows: &mut Pile<Row>,
-    objects: &mut S,
-    allowance: u32,
-) -> Result<(), Refused>
-    requires far { run.old.steps + allowance ≤ 4000000000 }
-    requires open { run.old.end ≡ Unfinished }
-    ensures kept { Kept rows.old rows.new }
-    ensures places { run.new.places ≡ run.old.places }
-    ensures works { WorkedFrom (given (book_of book.now) N.NumberRule.rule readings.now (size rows.old)) allowance (state_of run.old rows.old (S.ObjectStore.means objects.old)) run.old.steps result (state_of run.new rows.new (S.ObjectStore.means objects.new)) run.new.steps run.new.end }
-{
-    let mut used = 0;
-    while used < allowance {
-        match step::step::<S, N>(run.hand, run.around, book, readings, rows, objects) {
-            Stepped::Next(hand, around) => run.go_on(hand, around),
-            Stepped::Ends(end) => {
-                run.end_with(end);
-                return Ok(());
+    // Steps until the allowance is used up, or the run is finished or ends, or no line applies.
+    pub(crate) fn work<S: ObjectStore, N: NumberRule>(
+        &mut self,
+        given: &Given<N>,
+        rows: &mut Pile<Row>,
+        objects: &mut S,
+        allowance: u32,
+    ) -> Result<(), Refused>
+        requires far { self.old.steps + allowance ≤ 4000000000 }
+        requires open { self.old.end ≡ Unfinished }
+        ensures kept { Kept rows.old rows.new }
+        ensures places { self.new.places ≡ self.old.places }
+        ensures works { WorkedFrom (given_by N.NumberRule.rule given.now (size rows.old)) allowance (state_of self.old rows.old (S.ObjectStore.means objects.old)) self.old.steps result (state_of self.new rows.new (S.ObjectStore.means objects.new)) self.new.steps self.new.end }
+    {
+        for _ in 0..allowance {
+            let stepped = given.step(self.hand, self.around, rows, objects);
+            match stepped.ok_or(Refused::Misfit)? {
+                Stepped::Next(hand, around) => self.go_on(hand, around),
+                Stepped::Ends(end) => {
+                    self.end_with(end);
+                    return Ok(());
+                }
+                Stepped::Finished => {
+                    self.end = End::Finished;
+                    return Ok(());
+                }
             }
-            Stepped::Finished => {
-                run.end = End::Finished;
-                return Ok(());
-            }
-            Stepped::Misfit => return Err(Refused::Misfit),
         }
-        used += 1;
+        if is_finished(self.hand, rows) {
+            self.end = End::Finished;
+        }
+        Ok(())
     }
-    if is_finished(run.hand, rows) {
-        run.end = End::Finished;
-    }
-    Ok(())
 }

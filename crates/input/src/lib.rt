@@ -1,11 +1,12 @@
 // What a program is given: a count, that many readings, and a book.
 #![tactic(auto)]
 
-ghost use Rattle.std.specs.Prelude.{◌≡◌, ◌^◌, ◌<◌, ◌≤◌, true, false, map, length, drop, MatchOption, slice_index};
+ghost use Rattle.std.specs.Prelude.{◌≡◌, ◌<◌, true, false, map, MatchOption};
 ghost use Rattle.std.specs.List.{range_with_len};
-ghost use Rattle.input.specs.Day.{reading_count, wrong_input, book_bytes, half, reading};
+ghost use Rattle.input.specs.Day.{reading_count, wrong_input, book_bytes, reading};
 
-use book::signed_number;
+use book::{signed_number, word_at};
+use std::array;
 
 // A day's input, in its parts.
 #[derive(Clone, Copy)]
@@ -21,63 +22,30 @@ pub fn split<'a>(bytes: &'a [u8]) -> Option<Input<'a>>
     ensures { MatchOption result (wrong_input bytes.now ≡ true)
         (λ i. (wrong_input bytes.now ≡ false) × (i.readings ≡ reading_count bytes.now) × (i.book.now ≡ book_bytes bytes.now)) }
 {
-    if bytes.len() < 2 {
+    let [low, high, ..] = bytes else {
         return None;
-    }
-    let readings = u16::from(bytes[0]) + 256 * u16::from(bytes[1]);
+    };
+    let readings = u16::from_le_bytes([*low, *high]);
     let end = 2 + 4 * usize::from(readings);
     if readings > 4096 || bytes.len() < end {
         return None;
     }
-    Some(Input {
-        readings,
-        book: from(bytes, end),
-    })
+    let book = &bytes[end..];
+    Some(Input { readings, book })
 }
 
-// The bytes from a place on.
-fn from<'a>(bytes: &'a [u8], start: usize) -> &'a [u8]
-    requires { start ≤ length bytes.now }
-    ensures { result.now ≡ drop start bytes.now }
-{
-    &bytes[start..]
-}
-
-fn byte_at(bytes: &[u8], i: usize) -> u8
-    ensures { result ≡ slice_index bytes.now i }
-{
-    if i < bytes.len() { bytes[i] } else { 0 }
-}
-
-fn half_at(bytes: &[u8], i: usize) -> u16
-    requires { i < 2 ^ 32 }
-    ensures { result ≡ half bytes.now i }
-{
-    u16::from(byte_at(bytes, i)) + 256 * u16::from(byte_at(bytes, i + 1))
-}
-
+#[tactic(auto, unfolding(book::specs::Layout::word))]
 fn reading_at(bytes: &[u8], i: usize) -> i32
     requires { i < 4096 }
     ensures { result ≡ reading bytes.now i }
 {
-    signed_number(half_at(bytes, 2 + 4 * i), half_at(bytes, 4 + 4 * i))
+    signed_number(word_at(bytes, 2 + 4 * i), word_at(bytes, 4 + 4 * i))
 }
 
-// Fills places with the readings of an input, in order.
-fn fill(bytes: &[u8], places: &mut [i32])
-    requires { length places.old ≤ 4096 }
-    ensures { places.new ≡ map (reading bytes.now) (range_with_len 0 (length places.old)) }
-{
-    for i in 0..places.len() {
-        places[i] = reading_at(bytes, i);
-    }
-}
-
-// The numbers where an input's readings stand, or would stand: only the first are readings, as many as `split` tells.
+// The numbers where an input's readings stand, or would stand: only the first are readings, as many as `split` tells. All
+// places are promised, so they are an array with the count beside it.
 pub fn reading_places(bytes: &[u8]) -> [i32; 4096]
     ensures { result ≡ map (reading bytes.now) (range_with_len 0 4096) }
 {
-    let mut places = [0; 4096];
-    fill(bytes, &mut places);
-    places
+    array::from_fn(|i| reading_at(bytes, i))
 }

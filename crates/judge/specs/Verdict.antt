@@ -1,7 +1,7 @@
 -- The last line of an answer: what checking says of a book.
-use Rattle.std.specs.Prelude.{ℕ, List, [], ◌∷◌, Some, None, codes, Option}
+use Rattle.std.specs.Prelude.{◌≡◌, ℕ, ◌++◌, List, [], ◌∷◌, Some, None, codes, Option}
+use Rattle.std.specs.List.{concat}
 use Rattle.book.specs.declared.node.«Type».{«Type» as BookType}
-use Rattle.book.specs.declared.node.«Type».TheVariants.{Int, Boolean, Class}
 use Rattle.cool.specs.Book.{Part, Book}
 use Rattle.cool.specs.View.{view}
 use Rattle.checker.specs.declared.fault.TypeFault.{TypeFault}
@@ -9,7 +9,7 @@ use Rattle.checker.specs.Causes.{number, place}
 use Rattle.checked.specs.Holding.{Holds}
 use Rattle.checked.specs.Accepting.{HasType, HasNoType}
 use Rattle.listing.specs.Answer.{refused_line}
-use Rattle.listing.specs.Text.{joined, Added}
+use Rattle.listing.specs.Listing.{type_text}
 
 -- The name of a class.
 abbrev pub class_called : Book → Option Part → List ℕ
@@ -18,13 +18,11 @@ class_called B (Some p) = B.text p.called
 
 -- A type of a book: int, boolean, or the name of the class.
 abbrev pub type_name : Book → BookType → List ℕ
-type_name B Int = codes "int"
-type_name B Boolean = codes "boolean"
-type_name B (Class c) = class_called B (B.class c)
+type_name B z = type_text (λ c. class_called B (B.class c)) z
 
 -- The line of a type.
 abbrev pub type_line : Book → BookType → List ℕ
-type_line B z = joined (codes "type " ∷ type_name B z ∷ codes "\n" ∷ [])
+type_line B z = concat (codes "type " ∷ type_name B z ∷ codes "\n" ∷ [])
 
 -- The line for the book that the bytes bs are: its type where the rules derive one; else a refusal that holds. Which of
 -- those that hold is left open.
@@ -36,4 +34,4 @@ pub data Verdict (bs : List ℕ) : List ℕ → Type 0 where
 pub record Judged (bs old new : List ℕ) : Type 0 where
   pub line : List ℕ
   pub verdict : Verdict bs line
-  pub added : Added old new line
+  pub added : new ≡ old ++ line

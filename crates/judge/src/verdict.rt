@@ -1,49 +1,49 @@
 // The lines that say what checking finds.
-ghost use Rattle.std.specs.Prelude.{OnOk};
+ghost use Rattle.std.specs.Prelude.{◌≡◌, ◌++◌, OnOk, string_bytes};
 ghost use Rattle.book.specs.Books.{bytes_of};
-ghost use Rattle.book.specs.Faults.{Clear};
 ghost use Rattle.checked.specs.Checked.{book_of, top_type};
-ghost use Rattle.listing.specs.Text.{Adds};
-ghost use Rattle.judge.specs.Verdict.{type_name, type_line, Judged};
+ghost use Rattle.judge.specs.Verdict.{class_called, type_line, Judged};
 
 use book::ReadBook;
-use book::node::Type;
+use book::fault::Refusal;
 use checked::CheckedBook;
-use listing::put_refusal;
-use listing::text::put;
+use listing::lines::{ClassNames, type_name};
 use std::alloc::AllocError;
 
-fn put_top_type(out: &mut Vec<u8>, book: &CheckedBook) -> Result<(), AllocError>
-    ensures { Adds result out.old.items out.new.items (type_name (book_of book.now) (top_type book.now)) }
-{
-    match book.top_type() {
-        Type::Int => put(out, b"int"),
-        Type::Boolean => put(out, b"boolean"),
-        Type::Class(c) => match book.class(c) {
-            Some(class) => put(out, book.name(class.name)),
-            None => Ok(()),
-        },
+// A checked book, as it names its classes: both the trait and the book's type are other crates'.
+#[derive(Clone, Copy)]
+struct Named<'a> {
+    book: &'a CheckedBook<'a>,
+}
+
+impl ClassNames for Named<'_> {
+    ghost class_name_text = { λ named c. class_called (book_of named.book.now) ((book_of named.book.now).class c) };
+
+    fn class_name(&self, class: u16) -> &str {
+        match self.book.class(class) {
+            Some(found) => self.book.name(found.name),
+            None => "",
+        }
     }
 }
 
-fn put_type_line(out: &mut Vec<u8>, book: &CheckedBook) -> Result<(), AllocError>
-    ensures { Adds result out.old.items out.new.items (type_line (book_of book.now) (top_type book.now)) }
+fn write_type(out: &mut String, book: &CheckedBook) -> Result<(), AllocError>
+    ensures { OnOk result (string_bytes out.new ≡ string_bytes out.old ++ type_line (book_of book.now) (top_type book.now)) }
 {
-    put(out, b"type ")?;
-    put_top_type(out, book)?;
-    put(out, b"\n")?;
-    Ok(())
+    let named = Named { book };
+    let top = type_name(&named, book.top_type());
+    writeln!(out, "type {top}")
 }
 
 // Checks a book, and writes its type or why it has none.
-pub(crate) fn put_verdict(out: &mut Vec<u8>, book: ReadBook) -> Result<(), AllocError>
-    ensures { Clear (bytes_of book.entry) → OnOk result (Judged (bytes_of book.entry) out.old.items out.new.items) }
+pub(crate) fn write_verdict(out: &mut String, book: ReadBook) -> Result<(), AllocError>
+    ensures { OnOk result (Judged (bytes_of book.entry) (string_bytes out.old) (string_bytes out.new)) }
 {
     match checked::check(book) {
         Err(fault) => {
-            let refusal = fault.refusal();
-            put_refusal(out, refusal.number, refusal.place)
+            let refusal = Refusal::from(fault);
+            writeln!(out, "{refusal}")
         }
-        Ok(checked) => put_type_line(out, &checked),
+        Ok(book) => write_type(out, &book),
     }
 }

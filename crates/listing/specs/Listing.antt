@@ -10,7 +10,8 @@ use Rattle.book.specs.declared.node.«Type».TheVariants.{Int, Boolean, Class as
 use Rattle.book.specs.Layout.{counts_of, class_at, field_at}
 use Rattle.book.specs.Strips.{method_at, top_strip}
 use Rattle.book.specs.Names.{name_at}
-use Rattle.listing.specs.Text.{each, joined, labelled}
+use Rattle.std.specs.List.{concat}
+use Rattle.listing.specs.Text.{each, labelled}
 
 -- The bytes of a name, by its number.
 abbrev pub name_text : List ℕ → ℕ → List ℕ
@@ -20,35 +21,37 @@ abbrev pub class_text : List ℕ → Option Class → List ℕ
 class_text bs None = []
 class_text bs (Some c) = name_text bs c.name
 
--- int, boolean, or the name of a class
-abbrev pub type_text : List ℕ → BookType → List ℕ
-type_text bs Int = codes "int"
-type_text bs Boolean = codes "boolean"
-type_text bs (OfClass c) = class_text bs (class_at bs c)
+abbrev pub nth_class_text : List ℕ → ℕ → List ℕ
+nth_class_text bs i = class_text bs (class_at bs i)
+
+-- int, boolean, or what class_name says of a class
+abbrev pub type_text : (ℕ → List ℕ) → BookType → List ℕ
+type_text class_name Int = codes "int"
+type_text class_name Boolean = codes "boolean"
+type_text class_name (OfClass c) = class_name c
 
 -- A field's line: two blanks, `field`, its type and its name.
-unfoldable pub field_line : List ℕ → Option Field → List ℕ
+abbrev pub field_line : List ℕ → Option Field → List ℕ
 field_line bs None = []
-field_line bs (Some f) = joined (codes "  field " ∷ type_text bs f.typed ∷ codes " " ∷ name_text bs f.name ∷ codes "\n" ∷ [])
+field_line bs (Some f) = concat (codes "  field " ∷ type_text (nth_class_text bs) f.typed ∷ codes " " ∷ name_text bs f.name ∷ codes "\n" ∷ [])
 
 abbrev pub nth_field_line : List ℕ → ℕ → List ℕ
 nth_field_line bs j = field_line bs (field_at bs j)
 
 -- A method's line: two blanks, `method`, its result type, name and parameter type, and the nodes of its two strips.
-unfoldable pub method_head : List ℕ → Method → List ℕ
-method_head bs m = joined (codes "  method " ∷ type_text bs m.result ∷ codes " " ∷ name_text bs m.name ∷ codes "(" ∷ type_text bs m.parameter ∷ [])
-
-unfoldable pub method_line : List ℕ → Option Method → List ℕ
+abbrev pub method_line : List ℕ → Option Method → List ℕ
 method_line bs None = []
-method_line bs (Some m) = joined (method_head bs m ∷ labelled (codes ") command ") m.command.nodes ∷ labelled (codes " returned ") m.returned.nodes ∷ codes "\n" ∷ [])
+method_line bs (Some m) = concat (
+    codes "  method " ∷ type_text (nth_class_text bs) m.result ∷ codes " " ∷ name_text bs m.name ∷ codes "(" ∷ type_text (nth_class_text bs) m.parameter
+    ∷ labelled (codes ") command ") m.command.nodes ∷ labelled (codes " returned ") m.returned.nodes ∷ codes "\n" ∷ [])
 
 abbrev pub nth_method_line : List ℕ → ℕ → List ℕ
 nth_method_line bs m = method_line bs (method_at bs m)
 
 -- A class's lines: its name, its fields, its methods.
-unfoldable pub class_lines : List ℕ → Option Class → List ℕ
+abbrev pub class_lines : List ℕ → Option Class → List ℕ
 class_lines bs None = []
-class_lines bs (Some c) = joined (
+class_lines bs (Some c) = concat (
     codes "class " ∷ name_text bs c.name ∷ codes "\n"
     ∷ each (nth_field_line bs) c.first_field c.fields ∷ each (nth_method_line bs) c.first_method c.methods ∷ [])
 
@@ -56,11 +59,15 @@ abbrev pub nth_class_lines : List ℕ → ℕ → List ℕ
 nth_class_lines bs i = class_lines bs (class_at bs i)
 
 -- The first line: how many of each the book has.
-unfoldable pub counts_line : Counts → List ℕ
-counts_line n = joined (
+abbrev pub counts_line : Counts → List ℕ
+counts_line n = concat (
     labelled (codes "classes ") n.classes ∷ labelled (codes " fields ") n.fields ∷ labelled (codes " methods ") n.methods
     ∷ labelled (codes " nodes ") n.nodes ∷ labelled (codes " names ") n.names ∷ codes "\n" ∷ [])
 
 -- The whole listing: the counts, the classes, the nodes of the top-level expression.
-unfoldable pub listing : List ℕ → List ℕ
-listing bs = joined (counts_line (counts_of bs) ∷ each (nth_class_lines bs) 0 (counts_of bs).classes ∷ labelled (codes "top ") (top_strip bs).nodes ∷ codes "\n" ∷ [])
+abbrev pub listing : List ℕ → List ℕ
+listing bs = concat (counts_line (counts_of bs) ∷ each (nth_class_lines bs) 0 (counts_of bs).classes ∷ labelled (codes "top ") (top_strip bs).nodes ∷ codes "\n" ∷ [])
+
+-- The number n of readings, and the listing of the book that the bytes bs are.
+abbrev pub day_text : ℕ → List ℕ → List ℕ
+day_text n bs = concat (labelled (codes "readings ") n ∷ codes "\n" ∷ listing bs ∷ [])

@@ -1,5 +1,5 @@
 -- The ends of a run, each with its number and its node.
-use Rattle.std.specs.Prelude.{ℕ}
+use Rattle.std.specs.Prelude.{ℕ, cond, Option, Some, None, nat_lt}
 use Rattle.machine.specs.declared.state.End.{End}
 use Rattle.machine.specs.declared.state.End.TheVariants.{Unfinished, Finished, NullTarget, NoReading, BeyondEnds, NoRoom, NoPlace}
 
@@ -22,3 +22,7 @@ end_node (NoReading k) = k
 end_node (BeyondEnds k) = k
 end_node (NoRoom k) = k
 end_node (NoPlace k) = k
+
+-- The node of an end; none below end 31.
+abbrev pub ended_at : End → Option ℕ
+ended_at e = cond (nat_lt (end_number e) 31) None (Some (end_node e))

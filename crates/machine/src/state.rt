@@ -1,4 +1,6 @@
 // What the machine holds while it works a book.
+ghost use Rattle.std.specs.Prelude.{◌≡◌};
+
 use store::Value;
 
 // The current object and parameter; none stand at the top.
@@ -34,6 +36,7 @@ pub struct Row {
 }
 
 // How a run stands: not ended; finished; or ended by a cause, at a node.
+// `Unfinished` is a case and not a `None` around the others, since all seven are told by one number each.
 #[derive(Clone, Copy, PartialEq, Eq, Debug)]
 pub enum End {
     Unfinished,
@@ -48,4 +51,37 @@ pub enum End {
     NoRoom(u16),
     // no place for a row
     NoPlace(u16),
+}
+
+impl End {
+    ghost use Rattle.machine.specs.Ends.{end_number, ended_at};
+
+    // The number by which the end is told: 0 is finished, 1 not ended yet.
+    pub fn number(self) -> u16
+        ensures { result ≡ end_number self }
+    {
+        match self {
+            End::Finished => 0,
+            End::Unfinished => 1,
+            End::NullTarget(_) => 31,
+            End::NoReading(_) => 32,
+            End::BeyondEnds(_) => 33,
+            End::NoRoom(_) => 34,
+            End::NoPlace(_) => 35,
+        }
+    }
+
+    // The node at which a run ended by a cause.
+    pub fn node(self) -> Option<u16>
+        ensures { result ≡ ended_at self }
+    {
+        match self {
+            End::Finished | End::Unfinished => None,
+            End::NullTarget(node)
+            | End::NoReading(node)
+            | End::BeyondEnds(node)
+            | End::NoRoom(node)
+            | End::NoPlace(node) => Some(node),
+        }
+    }
 }

@@ -1,46 +1,47 @@
 // Number rules: fixed ends, and a difference of two numbers that lies between them, or none.
 #![tactic(auto)]
 
-ghost use Rattle.std.specs.Prelude.{◌≡◌};
-ghost use Rattle.numbers.specs.Rule.{Rule, between, within};
-ghost use Rattle.numbers.specs.Rules.{strict, java, clock, minus_in_32_bits};
+ghost use Rattle.std.specs.Prelude.{◌≡◌, ℤ, pos, refl};
+ghost use Rattle.numbers.specs.Rule.{Rule, least32, most32, within};
+ghost use Rattle.numbers.specs.Rules.{strict, java, clock};
 
-// Every rule owes the laws that the record `Rule` holds.
+// Every rule owes the laws that the record `Rule` holds, and has its ends as constants.
 pub trait NumberRule {
+    ghost LOW: { ℤ };
+
     const LOW: i32;
+
+    ghost HIGH: { ℤ };
 
     const HIGH: i32;
 
     ghost rule: { Rule };
 
-    // The ends, since a contract of generic code cannot cite the constants.
-    fn low_end() -> i32
-        ensures { result ≡ rule.low };
-
-    fn high_end() -> i32
-        ensures { result ≡ rule.high };
-
     fn difference(a: i32, b: i32) -> Option<i32>
         ensures { result ≡ rule.difference a b };
+
+    ghost low_is: { LOW ≡ rule.low };
+
+    ghost high_is: { HIGH ≡ rule.high };
 }
 
 // All 32 bits; no difference where it would not fit.
 pub struct Strict;
 
 impl NumberRule for Strict {
+    ghost LOW = { least32 };
+
     const LOW: i32 = i32::MIN;
+
+    ghost HIGH = { most32 };
 
     const HIGH: i32 = i32::MAX;
 
     ghost rule = { strict };
 
-    fn low_end() -> i32 {
-        Self::LOW
-    }
+    ghost low_is = { refl };
 
-    fn high_end() -> i32 {
-        Self::HIGH
-    }
+    ghost high_is = { refl };
 
     fn difference(a: i32, b: i32) -> Option<i32> {
         a.checked_sub(b)
@@ -51,22 +52,22 @@ impl NumberRule for Strict {
 pub struct Java;
 
 impl NumberRule for Java {
+    ghost LOW = { least32 };
+
     const LOW: i32 = i32::MIN;
+
+    ghost HIGH = { most32 };
 
     const HIGH: i32 = i32::MAX;
 
     ghost rule = { java };
 
-    fn low_end() -> i32 {
-        Self::LOW
-    }
+    ghost low_is = { refl };
 
-    fn high_end() -> i32 {
-        Self::HIGH
-    }
+    ghost high_is = { refl };
 
     fn difference(a: i32, b: i32) -> Option<i32> {
-        Some(wrapping_difference(a, b))
+        Some(a.wrapping_sub(b))
     }
 }
 
@@ -74,22 +75,23 @@ impl NumberRule for Java {
 pub struct Clock;
 
 impl NumberRule for Clock {
+    ghost LOW = { pos 0 };
+
     const LOW: i32 = 0;
+
+    ghost HIGH = { pos 1439 };
 
     const HIGH: i32 = 1439;
 
     ghost rule = { clock };
 
-    fn low_end() -> i32 {
-        Self::LOW
-    }
+    ghost low_is = { refl };
 
-    fn high_end() -> i32 {
-        Self::HIGH
-    }
+    ghost high_is = { refl };
 
     fn difference(a: i32, b: i32) -> Option<i32> {
-        if lies_between(Self::LOW, Self::HIGH, a) && lies_between(Self::LOW, Self::HIGH, b) {
+        let day = Self::LOW..=Self::HIGH;
+        if day.contains(&a) && day.contains(&b) {
             Some((a - b).rem_euclid(Self::HIGH + 1))
         } else {
             None
@@ -98,22 +100,11 @@ impl NumberRule for Clock {
 }
 
 // Whether `z` lies between the rule's ends.
+#[tactic(auto, unfolding(crate::specs::Rule::within))]
 pub fn is_within<N: NumberRule>(z: i32) -> bool
     ensures { result ≡ within N.NumberRule.rule z }
 {
-    lies_between(N::low_end(), N::high_end(), z)
-}
-
-fn lies_between(low: i32, high: i32, z: i32) -> bool
-    ensures { result ≡ between low high z }
-{
-    low <= z && z <= high
-}
-
-fn wrapping_difference(a: i32, b: i32) -> i32
-    ensures { result ≡ minus_in_32_bits a b }
-{
-    a.wrapping_sub(b)
+    (N::LOW..=N::HIGH).contains(&z)
 }
 
 #[cfg(test)]

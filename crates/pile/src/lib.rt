@@ -6,7 +6,6 @@ ghost use Rattle.std.specs.List.{IsAnyAnswer, slice_get};
 ghost use Rattle.pile.specs.Pile.{items, size, Kept, last, without_last};
 
 mod base;
-mod front;
 
 pub use base::Pile;
 
@@ -31,23 +30,28 @@ impl<'a, T: Copy + PartialEq> Pile<'a, T> {
     pub fn height(&self) -> usize
         ensures count { result ≡ length (items self.now) }
         ensures within { result ≤ size self.now }
-        ensures same { take result self.now.places.now ≡ items self.now }
-        ensures less { take (result - 1) self.now.places.now ≡ without_last (items self.now) }
     {
-        front::count(self.places, self.height)
+        self.as_slice().len()
+    }
+
+    // The items, the first put on first.
+    pub fn as_slice(&self) -> &[T]
+        ensures { result.now ≡ items self.now }
+    {
+        &self.places[..self.height]
     }
 
     // The item at place `i`, counted from 0 at the bottom.
     pub fn get(&self, i: usize) -> Option<T>
         ensures { result ≡ slice_get (items self.now) i }
     {
-        front::get(self.places, self.height, i)
+        self.as_slice().get(i).copied()
     }
 
     pub fn top(&self) -> Option<T>
         ensures { result ≡ last (items self.now) }
     {
-        self.get(self.height().saturating_sub(1))
+        self.as_slice().last().copied()
     }
 
     // Puts an item on; refused when every place is taken.
@@ -57,12 +61,11 @@ impl<'a, T: Copy + PartialEq> Pile<'a, T> {
         ensures after { items self.new ≡ (if result then items self.old ++ item ∷ [] else items self.old) }
         ensures refused { result ≡ false → self.new ≡ self.old }
     {
-        let n = self.height();
-        if n == self.places.len() {
+        if self.height == self.places.len() {
             return false;
         }
-        front::add(self.places, n, item);
-        self.height = n + 1;
+        self.places[self.height] = item;
+        self.height += 1;
         true
     }
 
@@ -74,7 +77,7 @@ impl<'a, T: Copy + PartialEq> Pile<'a, T> {
         ensures refused { result ≡ None → self.new ≡ self.old }
     {
         let item = self.top()?;
-        self.height = self.height().saturating_sub(1);
+        self.height -= 1;
         Some(item)
     }
 
@@ -85,11 +88,10 @@ impl<'a, T: Copy + PartialEq> Pile<'a, T> {
         ensures after { items self.new ≡ (if result then slice_set (items self.old) (length (items self.old) - 1) item else items self.old) }
         ensures refused { result ≡ false → self.new ≡ self.old }
     {
-        if self.height() == 0 {
+        let Some(top) = self.height.checked_sub(1) else {
             return false;
-        }
-        let height = self.height;
-        front::set_last(self.places, height, item);
+        };
+        self.places[top] = item;
         true
     }
 
@@ -105,7 +107,7 @@ impl<'a, T: Copy + PartialEq> Pile<'a, T> {
     pub fn contains(&self, item: T) -> bool
         ensures { IsAnyAnswer (λ y r'. r' ≡ T.PartialEq.eq y item) (items self.now) result }
     {
-        front::contains(self.places, self.height, item)
+        self.as_slice().contains(&item)
     }
 }
 

@@ -4,8 +4,6 @@
 ghost use Rattle.promises.specs.Promises.{EveryListOfCalls};
 
 // After every list of calls, the promises hold.
-pub fn promises_hold() -> bool
+pub fn promises_hold()
     ensures { EveryListOfCalls }
-{
-    true
-}
+{}

@@ -1,5 +1,5 @@
 -- The tests decide whether values and records fit.
-use Rattle.std.proofs.Common.{◌≡◌, ℕ, zero, suc, ◌+◌, true, false, not, ◌&&◌, List, [], ◌∷◌, ◌++◌, take, drop, is_some, Some, None, Option, sym, refl, ap, ◌∙◌, subst, arith}
+use Rattle.std.proofs.Common.{◌≡◌, ℕ, zero, suc, ◌+◌, Bool, true, false, not, ◌&&◌, List, [], ◌∷◌, ◌++◌, take, drop, is_some, Some, None, Option, sym, refl, ap, ◌∙◌, subst, arith}
 use Rattle.std.specs.List.{slice_get}
 use Rattle.std.specs.Option.{option_map}
 use Rattle.std.proofs.lemmas.Bool.{and_parts, and_from}
@@ -15,7 +15,12 @@ use Rattle.cool.proofs.Base.{no_some, some_same, unlike, eqb_self, eqb_eq}
 use Rattle.machine.specs.Fit.{Fits, fits_int, fits_boolean, fits_null, fits_handle, Cells, no_cells, a_cell, RecordsFit}
 use Rattle.slips.specs.Slip.{noted, all_noted, values_of, holds}
 use Rattle.slips.specs.Reached.{Reaches, its_own, through, RecordFits, ReachedFit}
-use Rattle.slips.specs.Fitting.{fits, cells_fit, fits_field, fits_class, fits_book, record_fits}
+use Rattle.slips.specs.Fitting.{fits, cells_fit, fits_class, fits_book, record_fits}
+
+-- what is told of something is there when it is
+pub there_alike : {A C : Type 0} (f : A → C) (o : Option A) {p : Option C} {r : Bool} → option_map f o ≡ p → r ≡ is_some o → is_some p ≡ r
+there_alike f None e q = ap is_some (sym e) ∙ sym q
+there_alike f (Some a) e q = ap is_some (sym e) ∙ sym q
 
 module _ (R : Rule) (S : Store) where
   pub fits_true : (v : Value) (t : BType) → fits R S v t ≡ true → Fits R S v t
@@ -92,32 +97,39 @@ module _ (R : Rule) (S : Store) where
     pub record_there : (h : ℕ) → record_fits B R S h ≡ true → (i k : ℕ) → slice_get (values_of (S.look h)) i ≡ Some (Handle k) → (o : Rec) × (S.look k ≡ Some o)
     record_there h e i k c = let f = record_true h e in let p = f.1 in cells_there f.4 i k (rw p at c)
 
-    -- the class is not there; the record is not there; both are
-    pub no_record_fits : (h : ℕ) → None ≡ class_at S h → false ≡ record_fits B R S h
-    unfolding class_at record_fits
-    no_record_fits h = by (S.look h)
-      where
-        by : (o : Option Rec) → None ≡ option_map (λ (x : Rec). x.class) o → false ≡ fits_book B R S o
-        by None e = refl
-        by (Some o) e = no_some e
+module _ (R : Rule) (S : Store) (B : Book) where
+  -- the class is not there; the record is not there; both are
+  pub no_record_fits : (h : ℕ) → None ≡ class_at S h → false ≡ record_fits B R S h
+  unfolding class_at record_fits
+  no_record_fits h = by (S.look h)
+    where
+      by : (o : Option Rec) → None ≡ option_map (λ (x : Rec). x.class) o → false ≡ fits_book B R S o
+      by None e = refl
+      by (Some o) e = no_some e
 
-    pub no_class_fits : (h c : ℕ) → Some c ≡ class_at S h → None ≡ B.class c → false ≡ record_fits B R S h
-    unfolding class_at record_fits
-    no_class_fits h c = by (S.look h)
-      where
-        by : (o : Option Rec) → Some c ≡ option_map (λ (x : Rec). x.class) o → None ≡ B.class c → false ≡ fits_book B R S o
-        by None e q = no_some (sym e)
-        by (Some o) e q = let z = q ∙ ap B.class (some_same e) in ap (λ p. fits_class R S p o.values) z
+  pub no_class_fits : (h c : ℕ) → Some c ≡ class_at S h → is_some (B.class c) ≡ false → false ≡ record_fits B R S h
+  unfolding class_at record_fits
+  no_class_fits h c = by (S.look h)
+    where
+      without : (p : Option Part) (vs : List Value) → is_some p ≡ false → false ≡ fits_class R S p vs
+      without None vs q = refl
+      without (Some p) vs q = unlike (sym q)
 
-    pub class_fits : (h c : ℕ) (p : Part) → Some c ≡ class_at S h → Some p ≡ B.class c → cells_fit R S (fields_of (B.class c)) (values_of (S.look h)) ≡ record_fits B R S h
-    unfolding class_at record_fits
-    class_fits h c p = by (S.look h)
-      where
-        by : (o : Option Rec) → Some c ≡ option_map (λ (x : Rec). x.class) o → Some p ≡ B.class c → cells_fit R S (fields_of (B.class c)) (values_of o) ≡ fits_book B R S o
-        by None e q = no_some (sym e)
-        by (Some o) e q =
-            let z = q ∙ ap B.class (some_same e) in
-            ap (λ r. cells_fit R S (fields_of r) o.values) (sym q) ∙ ap (λ r. fits_class R S r o.values) z
+      by : (o : Option Rec) → Some c ≡ option_map (λ (x : Rec). x.class) o → is_some (B.class c) ≡ false → false ≡ fits_book B R S o
+      by None e q = no_some (sym e)
+      by (Some o) e q = let z = some_same e in without (B.class o.class) o.values (rw z at q)
+
+  pub class_fits : (h c : ℕ) → Some c ≡ class_at S h → is_some (B.class c) ≡ true → cells_fit R S (fields_of (B.class c)) (values_of (S.look h)) ≡ record_fits B R S h
+  unfolding class_at record_fits
+  class_fits h c = by (S.look h)
+    where
+      with : (p : Option Part) (vs : List Value) → is_some p ≡ true → cells_fit R S (fields_of p) vs ≡ fits_class R S p vs
+      with None vs q = unlike q
+      with (Some p) vs q = refl
+
+      by : (o : Option Rec) → Some c ≡ option_map (λ (x : Rec). x.class) o → is_some (B.class c) ≡ true → cells_fit R S (fields_of (B.class c)) (values_of o) ≡ fits_book B R S o
+      by None e q = no_some (sym e)
+      by (Some o) e q = with (B.class c) o.values q ∙ ap (λ d. fits_class R S (B.class d) o.values) (some_same e)
 
 -- where all records fit, what is reached from a value that fits is there
 reached_there : (B : Book) (R : Rule) (S : Store) → RecordsFit B R S → {v : Value} {t : BType} → Fits R S v t → {h : ℕ} → Reaches S v h → (o : Rec) × (S.look h ≡ Some o)
@@ -156,23 +168,20 @@ pub noted_more : (ks ls : List ℕ) (vs : List Value) (i : ℕ) (v : Value) → 
 noted_more ks ls vs i v e q = ap (λ l. noted l v) q ∙ (sym (all_noted_last ks (take i vs) v) ∙ ap (all_noted ks) (sym (take_some vs i v e)))
 
 module _ (R : Rule) (S : Store) (fs : List (Name × BType)) (vs : List Value) (i : ℕ) where
-  -- one cell more
-  pub cell_step : (v : Value) → slice_get vs i ≡ Some v → cells_fit R S (drop i fs) (drop i vs) ≡ fits_field R S (slice_get fs i) v && cells_fit R S (drop (i + 1) fs) (drop (i + 1) vs)
+  -- a field with its value, and without one
+  pub cell_step : (f : Name × BType) (v : Value) → slice_get fs i ≡ Some f → slice_get vs i ≡ Some v → cells_fit R S (drop i fs) (drop i vs) ≡ fits R S v f.1 && cells_fit R S (drop (i + 1) fs) (drop (i + 1) vs)
   unfolding cells_fit
-  cell_step v e = by (slice_get fs i) refl
-    where
-      left : drop i vs ≡ v ∷ drop (i + 1) vs
-      left = drop_some vs i v e
+  cell_step f v e q = let p = drop_some fs i f e in let l = drop_some vs i v q in rw (p, l)
 
-      by : (f : Option (Name × BType)) → slice_get fs i ≡ f → cells_fit R S (drop i fs) (drop i vs) ≡ fits_field R S f v && cells_fit R S (drop (i + 1) fs) (drop (i + 1) vs)
-      by None q = let p = drop_none fs i q in let l = left in rw (p, l)
-      by (Some f) q = let p = drop_some fs i f q in let l = left in ap (λ x. cells_fit R S x (drop i vs)) p ∙ ap (λ x. cells_fit R S (f ∷ drop (i + 1) fs) x) l
-
-  -- no cell more
-  pub cell_end : slice_get vs i ≡ None → cells_fit R S (drop i fs) (drop i vs) ≡ not (is_some (slice_get fs i))
+  pub cell_missing : (f : Name × BType) → slice_get fs i ≡ Some f → slice_get vs i ≡ None → cells_fit R S (drop i fs) (drop i vs) ≡ false
   unfolding cells_fit
-  cell_end e = by (slice_get fs i) refl
+  cell_missing f e q = let p = drop_some fs i f e in let l = drop_none vs i q in rw (p, l)
+
+  -- no field more
+  pub cell_end : slice_get fs i ≡ None → cells_fit R S (drop i fs) (drop i vs) ≡ not (is_some (slice_get vs i))
+  unfolding cells_fit
+  cell_end e = by (slice_get vs i) refl
     where
-      by : (f : Option (Name × BType)) → slice_get fs i ≡ f → cells_fit R S (drop i fs) (drop i vs) ≡ not (is_some f)
-      by None q = let p = drop_none fs i q in let l = drop_none vs i e in rw (p, l)
-      by (Some f) q = let p = drop_some fs i f q in let l = drop_none vs i e in rw (p, l)
+      by : (o : Option Value) → slice_get vs i ≡ o → cells_fit R S (drop i fs) (drop i vs) ≡ not (is_some o)
+      by None q = let p = drop_none fs i e in let l = drop_none vs i q in rw (p, l)
+      by (Some v) q = let p = drop_none fs i e in let l = drop_some vs i v q in rw (p, l)

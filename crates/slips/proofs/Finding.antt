@@ -2,7 +2,7 @@
 use Rattle.std.proofs.Common.{◌≡◌, ℕ, zero, suc, ◌+◌, ◌-◌, ◌<◌, ◌≤◌, Bool, true, false, cond, eqb, ◌⊎◌, List, [], ◌∷◌, ◌++◌, length, Some, None, Option, sym, refl, ap, ◌∙◌, inl, inr, arith}
 use Rattle.std.specs.List.{slice_get}
 use Rattle.std.proofs.lemmas.List.{length_push}
-use Rattle.std.proofs.lemmas.Option.{slice_get_past}
+use Rattle.std.proofs.lemmas.Option.{slice_get_within, slice_get_past}
 use Rattle.store.specs.declared.Value.{Value}
 use Rattle.store.specs.declared.Value.TheVariants.{Int, Boolean, Null, Handle}
 use Rattle.store.specs.Meaning.{Rec, Store, Means, Sound, store, handles}
@@ -79,12 +79,7 @@ nth_either [] k (suc i) h e = no_some e
 nth_either (j ∷ ks) k zero h e = inl e
 nth_either (j ∷ ks) k (suc i) h e = elim (nth_either ks k i h e) [ inl q ↦ inl q | inr q ↦ inr (ap suc q.0, q.1) ]
 
--- places within a list, and past it
-pub nth_some : {A : Type 0} (xs : List A) (i : ℕ) (a : A) → slice_get xs i ≡ Some a → i < length xs
-nth_some [] i a e = no_some e
-nth_some (x ∷ xs) zero a e = omega arith
-nth_some (x ∷ xs) (suc i) a e = let l = nth_some xs i a e in omega arith
-
+-- places past a list
 pub nth_none : {A : Type 0} (xs : List A) (i : ℕ) → slice_get xs i ≡ None → length xs ≤ i
 nth_none [] i e = omega arith
 nth_none (x ∷ xs) zero e = no_some (sym e)
@@ -211,7 +206,7 @@ module _ (S : Store) where
   module _ (v : Value) (n : ℕ) (ended : slice_get (turns S v n) n ≡ None) where
     -- what stands at a place in the end stood there at its turn
     pub at_turn : (i k : ℕ) → slice_get (turns S v n) i ≡ Some k → i < n × (slice_get (turns S v i) i ≡ Some k)
-    at_turn i k e = let low : i < n = omega (arith, nth_some (turns S v n) i k e, nth_none (turns S v n) n ended) in (low, by low (slice_get (turns S v i) i) refl)
+    at_turn i k e = let low : i < n = omega (arith, slice_get_within (turns S v n) i k e, nth_none (turns S v n) n ended) in (low, by low (slice_get (turns S v i) i) refl)
       where
         by : i < n → (o : Option ℕ) → slice_get (turns S v i) i ≡ o → slice_get (turns S v i) i ≡ Some k
         by low None q = no_some (sym q ∙ (ap (λ l. slice_get l i) (sym (stays_found v (n - i) i n (omega arith) q)) ∙ e))

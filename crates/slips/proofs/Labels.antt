@@ -1,24 +1,29 @@
 -- Handles among those found, as the pile tells them.
-use Rattle.std.proofs.Common.{◌≡◌, ℕ, zero, suc, ◌+◌, ◌<◌, ◌≤◌, Bool, true, false, cond, ltb, eqb, List, [], ◌∷◌, ◌++◌, length, get_or, Some, None, sym, refl, ap, ◌∙◌, arith}
-use Rattle.std.specs.List.{slice_get, IsAnyAnswer}
+use Rattle.std.proofs.Common.{◌≡◌, ℕ, suc, ◌+◌, ◌<◌, ◌≤◌, Bool, true, false, cond, not, ltb, eqb, ◌⊎◌, List, [], ◌∷◌, ◌++◌, length, get_or, Some, None, Option, sym, refl, ap, ◌∙◌, inl, inr, arith}
+use Rattle.std.specs.List.{IsAnyAnswer, position_or_len}
+use Rattle.std.specs.Option.{unwrap_or}
 use Rattle.std.proofs.lemmas.List.{length_push}
-use Rattle.std.proofs.lemmas.Option.{slice_get-get_or}
-use Rattle.std.proofs.lemmas.Bool.{lt-ltb, eqb-true, eq-eqb}
-use Rattle.cool.proofs.Base.{some_same, unlike}
+use Rattle.std.proofs.lemmas.List.Recursion.{is_position_or_len}
+use Rattle.std.proofs.lemmas.Option.{slice_get_within, slice_get-get_or}
+use Rattle.std.proofs.lemmas.List.Sums.{prefix_len-le-length}
+use Rattle.std.proofs.lemmas.Bool.{lt-ltb, le-ltb, eqb-true, eq-eqb, cases_lt}
+use Rattle.cool.proofs.Base.{some_same}
 use Rattle.store.specs.declared.Value.{Value}
-use Rattle.slips.specs.Slip.{has, holds, unfound, and_last, noted, label}
-use Rattle.slips.proofs.Finding.{nth_has, has_nth, nth_some}
+use Rattle.store.specs.declared.Value.TheVariants.{Int, Boolean, Null, Handle}
+use Rattle.slips.specs.Slip.{has, noted, label}
+use Rattle.slips.proofs.Finding.{nth_has, has_nth}
 
-pub label_here : (ks : List ℕ) (i h : ℕ) → ((k : ℕ) → k < i → holds (slice_get ks k) h ≡ false) → holds (slice_get ks i) h ≡ true → i ≡ label ks h
+pub label_is : (ks : List ℕ) (h n : ℕ) (r : Option ℕ) → r ≡ cond (ltb (position_or_len (eqb h) ks) (length ks)) (Some (position_or_len (eqb h) ks)) None → n ≡ unwrap_or r (length ks) → n ≡ label ks h
 unfolding label
-label_here [] i h f e = unlike e
-label_here (k ∷ ks) zero h f e = rw e
-label_here (k ∷ ks) (suc i) h f e = let q = f 0 (omega arith) in rw q (ap suc (label_here ks i h (λ j l. f (suc j) (omega arith)) e))
-
-pub label_none : (ks : List ℕ) (n h : ℕ) → n ≡ length ks → ((k : ℕ) → k < n → holds (slice_get ks k) h ≡ false) → n ≡ label ks h
-unfolding label
-label_none [] n h e f = e
-label_none (k ∷ ks) n h e f = let q = f 0 (omega arith) in rw (q, e) (ap suc (label_none ks (length ks) h refl (λ j l. f (suc j) (omega arith))))
+label_is ks h n r e q =
+    let next : (n : ℕ) → suc n ≡ 1 + n = λ n. omega arith in
+    let first : label ks h ≡ position_or_len (eqb h) ks = is_position_or_len (λ xs. label xs h) (eqb h) refl (λ x xs. ap (cond (eqb h x) 0) (next (label xs h))) ks in
+    let most : position_or_len (eqb h) ks ≤ length ks = prefix_len-le-length (λ x. not (eqb h x)) ks in
+    q ∙ (ap (λ o. unwrap_or o (length ks)) e ∙ (by (position_or_len (eqb h) ks) (cases_lt (position_or_len (eqb h) ks) (length ks)) most ∙ sym first))
+  where
+    by : (p : ℕ) → (p < length ks) ⊎ (length ks ≤ p) → p ≤ length ks → unwrap_or (cond (ltb p (length ks)) (Some p) None) (length ks) ≡ p
+    by p (inl l) m = let t = lt-ltb p (length ks) l in rw t
+    by p (inr l) m = let t = le-ltb p (length ks) l in rw t (omega arith)
 
 pub contains_is : (ks : List ℕ) (h : ℕ) (r : Bool) → IsAnyAnswer (λ y t. t ≡ eqb y h) ks r → r ≡ has ks h
 contains_is ks h true f =
@@ -31,18 +36,25 @@ contains_is ks h false f = by (has ks h) refl
     by false q = refl
     by true q =
         let i = has_nth ks h q in
-        let low = nth_some ks i.0 h i.1 in
+        let low = slice_get_within ks i.0 h i.1 in
         f i.0 0 (omega arith) low ∙ eq-eqb (get_or ks i.0 0) h (some_same (sym (slice_get-get_or ks i.0 0 low) ∙ i.1))
 
--- a handle that is noted anew, and none
-pub noted_new : (ks ls : List ℕ) (v : Value) (h n : ℕ) (r : Bool) → Some h ≡ unfound ks v → r ≡ ltb (length ks) n → ls ≡ cond r (ks ++ h ∷ []) ks → length (noted ks v) ≤ n → ls ≡ noted ks v
+-- a value without a handle, with one that was found before, and with a new one
+pub noted_other : (ks : List ℕ) (v : Value) → ((h : ℕ) → v ≡ Handle h → ⊥) → ks ≡ noted ks v
 unfolding noted
-noted_new ks ls v h n r e t f l =
-    let new : noted ks v ≡ ks ++ h ∷ [] = ap (and_last ks) (sym e) in
+noted_other ks (Int n) f = refl
+noted_other ks (Boolean b) f = refl
+noted_other ks Null f = refl
+noted_other ks (Handle h) f = absurd (f h refl)
+
+pub noted_again : (ks : List ℕ) (v : Value) (h : ℕ) → v ≡ Handle h → has ks h ≡ true → ks ≡ noted ks v
+unfolding noted
+noted_again ks v h e q = rw (e, q)
+
+pub noted_new : (ks ls : List ℕ) (v : Value) (h n : ℕ) (r : Bool) → v ≡ Handle h → has ks h ≡ false → r ≡ ltb (length ks) n → ls ≡ cond r (ks ++ h ∷ []) ks → length (noted ks v) ≤ n → ls ≡ noted ks v
+unfolding noted
+noted_new ks ls v h n r e q t f l =
+    let new : noted ks v ≡ ks ++ h ∷ [] = rw (e, q) in
     let long : length (noted ks v) ≡ length ks + 1 = ap length new ∙ length_push ks h in
     let room : r ≡ true = t ∙ lt-ltb (length ks) n (omega (arith, long)) in
     f ∙ (ap (λ b. cond b (ks ++ h ∷ []) ks) room ∙ sym new)
-
-pub noted_none : (ks : List ℕ) (v : Value) → None ≡ unfound ks v → ks ≡ noted ks v
-unfolding noted
-noted_none ks v e = ap (and_last ks) e

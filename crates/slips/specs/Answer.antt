@@ -6,10 +6,13 @@ use Rattle.numbers.specs.Rule.{Rule}
 use Rattle.store.specs.declared.Value.{Value}
 use Rattle.store.specs.Meaning.{Store}
 use Rattle.cool.specs.Book.{Book}
+use Rattle.checked.specs.declared.base.CheckedBook.{CheckedBook}
+use Rattle.checked.specs.Checked.{book_of, top_type}
 use Rattle.machine.specs.declared.state.Hand.{Hand}
 use Rattle.machine.specs.declared.state.Hand.TheVariants.{Go, Have, Done}
 use Rattle.machine.specs.declared.state.End.{End}
 use Rattle.machine.specs.declared.state.End.TheVariants.{Unfinished, Finished, NullTarget, NoReading, BeyondEnds, NoRoom, NoPlace}
+use Rattle.slips.specs.declared.Outcome.{Outcome}
 use Rattle.slips.specs.declared.refused.SlipRefused.{SlipRefused}
 use Rattle.slips.specs.declared.refused.SlipRefused.TheVariants.{FewPlaces, Misfit, ShortOutput}
 use Rattle.slips.specs.Slip.{shown, found_with, slip}
@@ -62,6 +65,10 @@ pub record Asked : Type 0 where
   pub end : End
   pub steps : ℕ
   pub hand : Hand
+
+-- What is asked of a run that came out so, by a checked book, a number rule and a store.
+abbrev pub asked_of : Outcome → CheckedBook → Rule → Store → Asked
+asked_of u b R S = record { book = book_of b; top = top_type b; rule = R; store = S; end = u.end; steps = u.steps; hand = u.hand }
 
 abbrev pub asked_slip : Asked → List ℕ
 asked_slip q = slip q.book q.store q.end q.steps q.hand

@@ -33,11 +33,6 @@ cells_fit R S [] (v ∷ vs) = false
 cells_fit R S (f ∷ fs) [] = false
 cells_fit R S (f ∷ fs) (v ∷ vs) = fits R S v f.1 && cells_fit R S fs vs
 
--- A value fits the field that stands there.
-abbrev pub fits_field : Rule → Store → Option (Name × BType) → Value → Bool
-fits_field R S None v = false
-fits_field R S (Some f) v = fits R S v f.1
-
 abbrev pub fits_class : Rule → Store → Option Part → List Value → Bool
 fits_class R S None vs = false
 fits_class R S (Some p) vs = cells_fit R S p.fields vs

@@ -5,14 +5,16 @@ use Rattle.std.specs.Fmt.{signed_decimal}
 use Rattle.book.specs.declared.node.Type.{«Type» as BType}
 use Rattle.store.specs.declared.Value.{Value}
 use Rattle.store.specs.declared.Value.TheVariants.{Int, Boolean, Null, Handle}
-use Rattle.store.specs.Meaning.{Rec, Store}
+use Rattle.store.specs.Meaning.{Rec, Store, Means, store}
 use Rattle.cool.specs.Syntax.{Name}
 use Rattle.cool.specs.Book.{Part, Book, fields_of}
+use Rattle.checked.specs.Checked.{book_of}
 use Rattle.machine.specs.declared.state.Hand.{Hand}
 use Rattle.machine.specs.declared.state.Hand.TheVariants.{Go, Have, Done}
 use Rattle.machine.specs.declared.state.End.{End}
 use Rattle.machine.specs.declared.state.End.TheVariants.{Unfinished, Finished, NullTarget, NoReading, BeyondEnds, NoRoom, NoPlace}
-use Rattle.machine.specs.Ends.{end_number, end_node}
+use Rattle.machine.specs.Ends.{end_number, ended_at}
+use Rattle.slips.specs.declared.print.Slip.{Slip}
 use Rattle.slips.specs.Text.{joined, each}
 
 -- A handle is among those found.
@@ -120,10 +122,6 @@ record_lines B S all = each (λ i. nth_line B S all i (slice_get all i)) (length
 unfoldable pub value_lines : Book → Store → List ℕ → Value → List ℕ
 value_lines B S all v = joined (value_words v ∷ codes "\n" ∷ record_lines B S all ∷ [])
 
--- The node of an end; none below end 31.
-abbrev pub ended_at : End → Option ℕ
-ended_at e = cond (nat_lt (end_number e) 31) None (Some (end_node e))
-
 abbrev pub node_words : Option ℕ → List ℕ
 node_words None = codes "-"
 node_words (Some k) = decimal k
@@ -160,3 +158,7 @@ printed B S all e n v = first_line e n ++ shown_lines B S all v
 -- The slip of a run with this end, steps and hand, by a book and a store.
 abbrev pub slip : Book → Store → End → ℕ → Hand → List ℕ
 slip B S e n x = printed B S (found_with S (shown e x)) e n (shown e x)
+
+-- What is printed of a slip in code, where a store means so.
+abbrev pub text_of : {S : Type 0} → (S → Means) → Slip S → List ℕ
+text_of meant s = printed (book_of s.book.now) (store (meant s.objects.now)) s.found.now s.end s.steps s.shown

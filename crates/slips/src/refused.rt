@@ -14,12 +14,12 @@ pub enum SlipRefused {
     ShortOutput,
 }
 
-impl SlipRefused {
-    // The number and the place under which it is refused.
-    pub fn refusal(self) -> Refusal
-        ensures { result ≡ refusal self }
-    {
-        let number = match self {
+impl From<SlipRefused> for Refusal {
+    ghost from_gives = { λ refused r. r ≡ refusal refused };
+
+    // The number and the place under which the slip is refused.
+    fn from(refused: SlipRefused) -> Refusal {
+        let number = match refused {
             SlipRefused::FewPlaces => 25,
             SlipRefused::Misfit => 23,
             SlipRefused::ShortOutput => 26,

@@ -1,1 +1,6 @@
+mod Chains
+mod Laid
+mod More
+mod Packs
+mod Stores
 mod Trying

@@ -4,7 +4,8 @@ use Rattle.std.proofs.lemmas.Bool.Decides.{nat_tests, eqb_tells}
 use Rattle.store.specs.declared.Value.{Value}
 use Rattle.store.specs.Meaning.{Rec, Store, room, added, written, made, value_at}
 use Rattle.store.specs.Trying.{room_for_two, two_made}
-use Rattle.store.specs.Stores.{not_none, value_added, value_kept, value_written, value_elsewhere}
+use Rattle.store.specs.Numbered.{not_none}
+use Rattle.store.proofs.Stores.{value_added, value_kept, value_written, value_elsewhere}
 
 pub second_fits : (S : Store) (c : ℕ) (old : Value) (T : Store) (h : ℕ) → T ≡ added S h (made c (old ∷ [])) → room_for_two S ≡ true → room T 1 ≡ true
 unfolding added

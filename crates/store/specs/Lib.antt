@@ -1,11 +1,7 @@
-pub mod Chained
 pub mod Chaining
+pub mod Layouts
 pub mod Meaning
 pub mod Numbering
-pub mod Packed
 pub mod Packing
 pub mod Trying
-pub mod Chains
-pub mod Stores
 pub mod Numbered
-pub mod Packs

@@ -1,19 +1,14 @@
 -- Records packed end to end in one row of cells.
-use Rattle.std.specs.Prelude.{ℕ, ◌+◌, Bool, ◌&&◌, List, [], ◌∷◌, take, drop, Option, ◌==◌}
+use Rattle.std.specs.Prelude.{ℕ, ◌+◌, Bool, ◌&&◌, List, [], ◌∷◌, length, ◌==◌}
 use Rattle.store.specs.declared.Value.{Value}
-use Rattle.store.specs.declared.packed.base.Head.{Head}
-use Rattle.store.specs.Meaning.{Rec}
-use Rattle.store.specs.Numbering.{spot_of}
+use Rattle.store.specs.declared.records.Head.{Head}
+use Rattle.store.specs.Layouts.{Layout}
 
--- Each head starts where the one before it ends, the first at `at`, and the last ends at n.
+-- Each head's cells start where those of the one before it end, the first's at p, and the last's end at n.
 abbrev pub packed : ℕ → List Head → ℕ → Bool
-packed at [] n = at == n
-packed at (x ∷ xs) n = x.start == at && packed (at + x.len) xs n
+packed p [] n = p == n
+packed p (x ∷ xs) n = x.first == p && packed (p + x.len) xs n
 
--- The record of a head.
-abbrev pub rec_of : List Value → Head → Rec
-rec_of row x = record { class = x.class; values = take x.len (drop x.start row) }
-
--- Where in the row the cell at a place of a record lies.
-abbrev pub packed_spot : List Head → ℕ → ℕ → Option ℕ
-packed_spot hs h i = spot_of (λ x. x.len) (λ x k. x.start + k) hs h i
+-- The cell at a place of a record is as far from its first.
+abbrev pub packed_layout : List Value → Layout
+packed_layout row = record { row = row; lies = λ first k. first + k; keeps = λ xs. packed 0 xs (length row) }

@@ -3,12 +3,16 @@
 
 ghost use Rattle.std.specs.Prelude.{◌≡◌};
 ghost use Rattle.std.specs.List.{slice_get};
+ghost use Rattle.store.specs.declared.StoreError.TheVariants.{NoMemory};
 ghost use Rattle.store.specs.Meaning.{Means, Sound, store, handles, Makes, Puts, class_at, value_at};
 ghost use Rattle.store.specs.Trying.{Tries, room_for_two};
 
+mod cells;
 pub mod chained;
 pub mod packed;
-mod rows;
+mod records;
+
+use std::alloc::AllocError;
 
 // A value: an int, a boolean, null, or a record by its handle.
 #[derive(Clone, Copy, PartialEq, Eq, Debug)]
@@ -24,6 +28,14 @@ pub enum Value {
 pub enum StoreError {
     BeyondBounds,
     NoMemory,
+}
+
+impl From<AllocError> for StoreError {
+    ghost from_gives = { λ _ e. e ≡ NoMemory };
+
+    fn from(_error: AllocError) -> StoreError {
+        StoreError::NoMemory
+    }
 }
 
 // A store is known by what it means. All its memory is taken when it is made, so that no call fails for want of it.

@@ -1,28 +1,25 @@
 // Both stores against one table of calls, filled to their limits and one beyond: `stdout` has what each answers.
 #![tactic(auto)]
 
-ghost use Rattle.std.specs.Prelude.{◌≡◌, Some, MatchResult};
+ghost use Rattle.std.specs.Prelude.{◌≡◌, ℕ, Some, MatchResult};
+ghost use Rattle.store.specs.Meaning.{Opens};
 ghost use Rattle.store.specs.declared.StoreError.TheVariants.{NoMemory};
 
-use std::alloc::Global;
 use std::io;
 use store::chained::ChainedStore;
 use store::packed::PackedStore;
 use store::{ObjectStore, StoreError, Value};
 
-// The generic trial in a new packed store with room for two records: what was written, and what was not.
-fn tried_packed(heap: Global, old: Value, new: Value) -> Result<Option<(Value, Value)>, StoreError>
+// The generic trial in a new store with room for two records: what was written, and what was not.
+fn trial<S: ObjectStore + Drop>(
+    opened: Result<S, StoreError>,
+    old: Value,
+    new: Value,
+) -> Result<Option<(Value, Value)>, StoreError>
+    requires { Opens S.ObjectStore.means 2 2 opened }
     ensures { MatchResult result (λ o. o ≡ Some (new, old)) (λ e. e ≡ NoMemory) }
 {
-    let mut objects = PackedStore::new(heap, 2, 2)?;
-    Ok(store::try_two(&mut objects, 0, old, new))
-}
-
-// The same in a chained store.
-fn tried_chained(heap: Global, old: Value, new: Value) -> Result<Option<(Value, Value)>, StoreError>
-    ensures { MatchResult result (λ o. o ≡ Some (new, old)) (λ e. e ≡ NoMemory) }
-{
-    let mut objects = ChainedStore::new(heap, 2, 2)?;
+    let mut objects = opened?;
     Ok(store::try_two(&mut objects, 0, old, new))
 }
 
@@ -37,6 +34,7 @@ fn counts<S: ObjectStore>(rt: &HostRuntime, objects: &S) -> io::Result<()> {
 fn record<S: ObjectStore>(rt: &HostRuntime, objects: &S, handle: u32) -> io::Result<()> {
     let class = objects.class_of(handle);
     println!(rt; "class {class:?}")?;
+    // one place more than any record has
     for place in 0..3 {
         let value = objects.value_at(handle, place);
         println!(rt; "  {place}: {value:?}")?;
@@ -74,63 +72,68 @@ fn table<S: ObjectStore>(rt: &HostRuntime, objects: &mut S) -> io::Result<()> {
 
 // Every record in the order of `nth`, and one place further.
 fn each<S: ObjectStore>(rt: &HostRuntime, objects: &S) -> io::Result<()> {
-    let mut sum = 0;
-    for n in 0..4 {
+    let sum = (0..4).fold(0, |sum: u16, n| {
         let class = match objects.nth(n) {
             Some(handle) => objects.class_of(handle).unwrap_or(0),
             None => 100,
         };
-        sum = class.wrapping_add(sum);
-    }
+        sum.wrapping_add(class)
+    });
     println!(rt; "classes and the end: {sum}")
 }
 
+// The trial and the table, for one kind of store.
+fn kind<S: ObjectStore + Drop, F: Fn(usize, usize) -> Result<S, StoreError>>(
+    rt: &HostRuntime,
+    name: &str,
+    opener: F,
+) -> io::Result<()>
+    requires callable { F.IsAlwaysCallable opener }
+    requires opens { (r q : ℕ) (o : _) → F.post opener r q o → Opens S.ObjectStore.means r q o }
+{
+    println!(rt;
+        "{name}: {:?}",
+        trial(opener(2, 2), Value::Null, Value::Int(1))
+    )?;
+    match opener(3, 4) {
+        Ok(mut objects) => table(rt, &mut objects),
+        Err(error) => println!(rt; "{error:?}"),
+    }
+}
+
 // What opening at and beyond the bounds answers.
-fn bounds(rt: &HostRuntime, heap: Global) -> io::Result<()> {
-    println!(rt;
-        "at the bounds: {}",
-        PackedStore::new(heap, 4096, 65535).is_ok()
-    )?;
-    println!(rt;
-        "at the bounds: {}",
-        ChainedStore::new(heap, 4096, 65535).is_ok()
-    )?;
-    println!(rt;
-        "records beyond: {:?}",
-        PackedStore::new(heap, 4097, 0).err()
-    )?;
-    println!(rt;
-        "records beyond: {:?}",
-        ChainedStore::new(heap, 4097, 0).err()
-    )?;
-    println!(rt;
-        "cells beyond: {:?}",
-        PackedStore::new(heap, 0, 65536).err()
-    )?;
-    println!(rt;
-        "cells beyond: {:?}",
-        ChainedStore::new(heap, 0, 65536).err()
-    )
+#[derive(Drop)]
+struct Answers {
+    at: bool,
+    records: Option<StoreError>,
+    cells: Option<StoreError>,
+}
+
+fn answers_of<S: Drop, F: Fn(usize, usize) -> Result<S, StoreError>>(opener: F) -> Answers
+    requires { F.IsAlwaysCallable opener }
+{
+    Answers {
+        at: opener(4096, 65535).is_ok(),
+        records: opener(4097, 0).err(),
+        cells: opener(0, 65536).err(),
+    }
 }
 
 fn main(rt: HostRuntime) -> anyhow::Result<()> {
-    let heap = rt.alloc();
-    println!(rt;
-        "packed: {:?}",
-        tried_packed(heap, Value::Null, Value::Int(1))
-    )?;
-    match PackedStore::new(heap, 3, 4) {
-        Ok(mut objects) => table(&rt, &mut objects)?,
-        Err(error) => println!(rt; "{error:?}")?,
+    let alloc = rt.alloc();
+    let packed = |records, cells| PackedStore::new(alloc, records, cells);
+    let chained = |records, cells| ChainedStore::new(alloc, records, cells);
+    kind(&rt, "packed", &packed)?;
+    kind(&rt, "chained", &chained)?;
+    let both = [answers_of(packed), answers_of(chained)];
+    for answers in &both {
+        println!(rt; "at the bounds: {}", answers.at)?;
     }
-    println!(rt;
-        "chained: {:?}",
-        tried_chained(heap, Value::Null, Value::Int(1))
-    )?;
-    match ChainedStore::new(heap, 3, 4) {
-        Ok(mut objects) => table(&rt, &mut objects)?,
-        Err(error) => println!(rt; "{error:?}")?,
+    for answers in &both {
+        println!(rt; "records beyond: {:?}", answers.records)?;
     }
-    bounds(&rt, heap)?;
+    for answers in &both {
+        println!(rt; "cells beyond: {:?}", answers.cells)?;
+    }
     Ok(())
 }

@@ -1,80 +1,63 @@
 // Prints the first two lines of the answer to each input of a table of torn books: see tools/torn.py.
 #![tactic(auto)]
 
+ghost use Rattle.std.specs.Prelude.{length};
+ghost use Rattle.std.specs.Iterator.{at_most};
+
 use std::alloc::Global;
 use std::io::{Read, Write};
+use table::first_item;
 
-// A case of the table: its label, its input, and the cases after it.
 #[derive(Clone, Copy)]
 struct Case<'a> {
     label: &'a [u8],
     input: &'a [u8],
-    rest: &'a [u8],
 }
 
-fn cut<'a>(bytes: &'a [u8], n: usize) -> Option<(&'a [u8], &'a [u8])> {
-    if n > bytes.len() {
-        return None;
+// The cases of a table, up to the first that is cut. A label stands behind its length in one byte, an input is an item.
+#[derive(Drop)]
+struct Cases<'a> {
+    table: &'a [u8],
+}
+
+impl<'a> Iterator for Cases<'a> {
+    type Item = Case<'a>;
+
+    ghost remaining = { λ cases. at_most (length cases.table.now) };
+
+    fn next(&mut self) -> Option<Case<'a>> {
+        let (len, rest) = self.table.split_first()?;
+        let (label, rest) = rest.split_at_checked(usize::from(*len))?;
+        let input = first_item(rest)?;
+        self.table = input.rest;
+        Some(Case {
+            label,
+            input: input.bytes,
+        })
     }
-    Some(bytes.split_at(n))
 }
 
-fn next_case<'a>(bytes: &'a [u8]) -> Option<Case<'a>> {
-    let [n, rest @ ..] = bytes else {
-        return None;
-    };
-    let (label, rest) = cut(rest, usize::from(*n))?;
-    let [a, b, c, d, rest @ ..] = rest else {
-        return None;
-    };
-    let (input, rest) = cut(rest, u32::from_le_bytes([*a, *b, *c, *d]) as usize)?;
-    Some(Case { label, input, rest })
-}
-
-// Where the second line of a text ends.
-fn two_lines(text: &[u8]) -> usize {
-    let mut lines = 0u8;
-    for (i, b) in text.iter().enumerate() {
-        if *b == b'\n' {
-            if lines == 1 {
-                return i;
-            }
-            lines = 1;
-        }
-    }
-    text.len()
-}
-
-fn show(heap: Global, out: &mut Vec<u8>, case: &Case) -> anyhow::Result<()> {
+// Writes a case's label, and the first two lines of the answer to its input.
+// The output is bytes, since a label need not be text.
+fn show(alloc: Global, out: &mut Vec<u8>, case: &Case) -> anyhow::Result<()> {
     out.extend_from_slice(case.label)?;
     out.extend_from_slice(b":\n")?;
-    let answer = listing::answer(heap, case.input)?;
-    let end = two_lines(&answer);
-    for b in answer.iter().take(end) {
-        out.push(*b)?;
-    }
-    if end < answer.len() {
-        out.push(b'\n')?;
+    let answer = listing::answer(alloc, case.input)?;
+    for line in answer.split_inclusive('\n').take(2) {
+        out.extend_from_slice(line.as_bytes())?;
     }
     Ok(())
 }
 
-fn run(rt: &HostRuntime) -> anyhow::Result<()> {
+// The lines of typed's main too: reading and printing have no contract that a shared function could state.
+fn main(rt: HostRuntime) -> anyhow::Result<()> {
     let mut table = Vec::new(rt.alloc());
     rt.stdin().read_to_end(&mut table)?;
     let mut out = Vec::new(rt.alloc());
-    let mut rest = table.as_slice();
-    for _ in 0..table.len() {
-        let Some(case) = next_case(rest) else {
-            break;
-        };
+    let cases = Cases { table: &table };
+    for case in cases {
         show(rt.alloc(), &mut out, &case)?;
-        rest = case.rest;
     }
     rt.stdout().write_all(&out)?;
     Ok(())
-}
-
-fn main(rt: HostRuntime) -> anyhow::Result<()> {
-    run(&rt)
 }

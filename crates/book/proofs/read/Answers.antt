@@ -1,9 +1,26 @@
-use Rattle.std.proofs.Common.{rules}
 use Rattle.book.proofs.Deciding.{faults_decide}
 use Rattle.book.proofs.read.Goals as goal
 
-pub returns-in-Some : goal.returns-in-Some
-returns-in-Some c = record { answer = search rules; law = faults_decide }
+pub returns-in_err-check_version-clause-law : goal.returns-in_err-check_version-clause-law
+returns-in_err-check_version-clause-law c = faults_decide
 
-pub returns-in-None : goal.returns-in-None
-returns-in-None c = record { answer = search rules; law = faults_decide }
+pub returns-in_err-check_limits-clause-law : goal.returns-in_err-check_limits-clause-law
+returns-in_err-check_limits-clause-law c = faults_decide
+
+pub returns-in_err-check_offsets-clause-law : goal.returns-in_err-check_offsets-clause-law
+returns-in_err-check_offsets-clause-law c = faults_decide
+
+pub returns-in_err-check_names-clause-law : goal.returns-in_err-check_names-clause-law
+returns-in_err-check_names-clause-law c = faults_decide
+
+pub returns-in_err-check_totals-clause-law : goal.returns-in_err-check_totals-clause-law
+returns-in_err-check_totals-clause-law c = faults_decide
+
+pub returns-in_err-check_entries-clause-law : goal.returns-in_err-check_entries-clause-law
+returns-in_err-check_entries-clause-law c = faults_decide
+
+pub returns-in_err-check_nodes-clause-law : goal.returns-in_err-check_nodes-clause-law
+returns-in_err-check_nodes-clause-law c = faults_decide
+
+pub returns-clause-law : goal.returns-clause-law
+returns-clause-law c = faults_decide

@@ -1,12 +1,11 @@
 use Rattle.std.proofs.Common.{◌≡◌, ℕ, ◌<◌, List, length, get_or, Some, Ok, sym, ◌∙◌, subst, inl, inr, arith}
-use Rattle.std.proofs.lemmas.Option.{slice_get-get_or}
+use Rattle.std.proofs.lemmas.Option.{slice_get-get_or, slice_get_within}
 use Rattle.std.proofs.lemmas.Result.{err_from_is_err_and}
 use Rattle.std.proofs.lemmas.Bool.{cases_eq}
 use Rattle.std.specs.List.{slice_get}
 use Rattle.checked.specs.declared.table.Method.{Method}
 use Rattle.checked.specs.Methods.{method_in}
 use Rattle.checked.specs.Checked.{decoded_book, meth}
-use Rattle.checked.proofs.Repeating.{nth_low}
 use Rattle.checked.proofs.methods.check_methods.Goals as goal
 
 -- what holds of the entry that was read holds of the entry that stands there
@@ -28,4 +27,4 @@ loop-method-preserved c k m low h =
     ]
 
 pub returns : goal.returns
-returns c i m h = let l = nth_low c.args.methods.now i m h in c.loop-method.invariant i m (omega arith) h
+returns c i m h = let l = slice_get_within c.args.methods.now i m h in c.loop-method.invariant i m (omega arith) h

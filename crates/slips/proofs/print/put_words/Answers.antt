@@ -1,14 +1,15 @@
-use Rattle.std.proofs.Common.{subst, to_z-of_z, w32, SFits, rules}
-use Rattle.slips.specs.Slip.{value_words}
+use Rattle.std.proofs.Common.{to_z-of_z, w32, SFits, rules}
+use Rattle.std.specs.Fmt.{signed_decimal}
 use Rattle.slips.specs.Writing.{Puts}
+use Rattle.slips.specs.Slip.{value_words}
 use Rattle.slips.proofs.Pieces.{no_more, ◌▸◌}
 use Rattle.slips.proofs.print.put_words.Goals as goal
 
 pub returns-in-Int : goal.returns-in-Int
 unfolding value_words
 returns-in-Int c =
-    let f : SFits w32 c.in-Int.n = search rules in
-    let n = simp to_z-of_z at c.put_int.ensures in
+    let fits : SFits w32 c.in-Int.n = search rules in
+    let n : Puts c.put.new.self c.put_decimal.new.self (signed_decimal c.in-Int.n) = search (rules, to_z-of_z, c.put_decimal.ensures) in
     let e = c.in-Int.is in
     rw e (c.put.ensures ▸ n ▸ no_more).are
 
@@ -16,7 +17,7 @@ pub returns-in-Boolean : goal.returns-in-Boolean
 unfolding value_words
 returns-in-Boolean c =
     let e = c.in-Boolean.is in
-    let b = subst (λ t. Puts c.put-in-Boolean.new.self c.put-in-Boolean-2.new.self t) c.truth_word.ensures c.put-in-Boolean-2.ensures in
+    let b = rw c.truth_word.ensures at c.put-in-Boolean-2.ensures in
     rw e (c.put-in-Boolean.ensures ▸ b ▸ no_more).are
 
 pub returns-in-Null : goal.returns-in-Null

@@ -1,7 +1,0 @@
-use Rattle.std.proofs.Common.{◌≡◌, ℕ, ◌<◌, false, Some}
-use Rattle.book.specs.Names.{after_names}
-use Rattle.book.specs.Faults.{wrong_name_in}
-use Rattle.book.proofs.names.wrong_name_in.Given as goal
-
-abbrev pub invariant-loop-n : goal.invariant-loop-n
-invariant-loop-n l = (after_names l.n l.bytes ≡ Some l.rest) × ((k : ℕ) → k < l.n → wrong_name_in l.count l.bytes k ≡ false)

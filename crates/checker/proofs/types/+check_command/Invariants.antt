@@ -1,4 +1,0 @@
-use Rattle.checker.proofs.types.+check_command.Given as goal
-
-abbrev pub decreases-check_command : goal.decreases-check_command
-decreases-check_command l = l.k

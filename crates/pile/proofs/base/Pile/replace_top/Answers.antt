@@ -1,0 +1,6 @@
+use Rattle.std.proofs.Common.{rules}
+use lib.Seq.{take-set-lt}
+use Rattle.pile.proofs.base.Pile.replace_top.Goals as goal
+
+pub returns-clause-after : goal.returns-clause-after
+returns-clause-after g c = search (rules, take-set-lt)
