@@ -1,6 +1,5 @@
 -- Sums and searches over numbers.
-use Rattle.std.proofs.Common.{◌≡◌, ℕ, zero, suc, ◌+◌, ◌<◌, ◌≤◌, Bool, true, false, ◌&&◌, eqb, leb, List, [], ◌∷◌, length, get_or, drop, cond, Some, None, Option, sym, refl, ◌∙◌, subst, inl, inr, add-one, arith}
-use Rattle.std.proofs.lemmas.List.{at_drop_more}
+use Rattle.std.proofs.Common.{◌≡◌, ℕ, zero, suc, ◌+◌, ◌<◌, ◌≤◌, Bool, true, false, ◌&&◌, eqb, leb, List, [], ◌∷◌, Some, None, Option, sym, refl, ◌∙◌, subst, inl, inr, add-one, arith}
 use Rattle.std.proofs.lemmas.Bool.{cases_eq, leb-true, ne_eqb, eq-eqb, or_from, or_left, or_right, and_left, and_right, and_from, and_parts}
 use Rattle.book.specs.Layout.{method_nodes, command_nodes, returned_nodes}
 use Rattle.book.specs.Counting.{total, any_below, at_place, first_place, Lowest}
@@ -72,7 +71,3 @@ table_lowest ((n, true) ∷ xs) p h = (
 )
 table_lowest ((n, false) ∷ xs) p h =
     lowest_same _ (at_place xs) (first_place xs) (λ q. rw (and_right (eqb q n) false refl)) (table_lowest xs (suc n) (and_parts _ _ h).1)
-
--- the first place of a table, sought from an index on
-pub first_place_skip : (t : List (ℕ × Bool)) (k : ℕ) (d : ℕ × Bool) → k < length t → first_place (drop k t) ≡ cond (get_or t k d).1 (Some (get_or t k d).0) (first_place (drop (k + 1) t))
-first_place_skip t k d l = at_drop_more first_place t k d l

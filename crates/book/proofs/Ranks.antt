@@ -108,8 +108,8 @@ module _ (bs : List ℕ) where
   node_first p free k = first_here bs 7 p free refl refl k
 
   -- what the look for wrong nodes rests on
-  pub few_nodes : FreeBelow bs 7 → node_count bs ≤ 4000
-  few_nodes free = ltb-false 4000 (node_count bs) (or_parts _ _ (free.none (Limit 4) (omega arith))).0
+  pub few_nodes : (n : ℕ) → 3 ≤ n → FreeBelow bs n → node_count bs ≤ 4000
+  few_nodes n far free = ltb-false 4000 (node_count bs) (or_parts _ _ (free.none (Limit 4) (omega arith))).0
 
-  pub nodes_add_up : FreeBelow bs 7 → total (method_nodes bs) (method_count bs) + top_count bs ≡ node_count bs
-  nodes_add_up free = eqb-true _ _ (not-false _ (or_parts _ _ (free.none (Total 4) (omega arith))).0)
+  pub nodes_add_up : (n : ℕ) → 6 ≤ n → FreeBelow bs n → total (method_nodes bs) (method_count bs) + top_count bs ≡ node_count bs
+  nodes_add_up n far free = eqb-true _ _ (not-false _ (or_parts _ _ (free.none (Total 4) (omega arith))).0)

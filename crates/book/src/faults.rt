@@ -1,8 +1,8 @@
 // The faults of a file: a look for each kind, once none of the kinds before it is there.
-ghost use Rattle.std.specs.Prelude.{◌≡◌};
+ghost use Rattle.std.specs.Prelude.{◌≡◌, [], ◌∷◌};
 ghost use Rattle.std.specs.Result.{result_err};
 ghost use Rattle.book.specs.Counting.{first_place};
-ghost use Rattle.book.specs.Faults.{FreeBelow, Looks, no_name, no_type, wrong_class, wrong_field, wrong_method, wrong_entry};
+ghost use Rattle.book.specs.Faults.{FreeBelow, Looks, limits, offsets, totals, no_name, no_type, wrong_class, wrong_field, wrong_method, wrong_entry};
 
 use crate::fault::Fault;
 use crate::layout::{
@@ -24,17 +24,27 @@ pub(crate) fn check_version(bytes: &[u8]) -> Result<(), Fault>
     }
 }
 
-// Looks for the first place of a table whose test holds.
-#[tactic(auto, using(crate::proofs::Counts::first_place_skip))]
-fn check_table(table: &[(u16, bool)]) -> Result<(), usize>
-    ensures { result_err result ≡ first_place table.now }
+// A header place that is wrong.
+fn check_place(place: u16, is_wrong: bool) -> Result<(), usize>
+    ensures { result_err result ≡ first_place ((place, is_wrong) ∷ []) }
 {
-    for (place, is_wrong) in table {
-        if *is_wrong {
-            return Err(usize::from(*place));
-        }
+    if is_wrong {
+        Err(usize::from(place))
+    } else {
+        Ok(())
     }
-    Ok(())
+}
+
+// The first header place whose count is above its limit, or the top-level expression's where it is empty.
+fn check_counts(bytes: &[u8]) -> Result<(), usize>
+    ensures { result_err result ≡ first_place (limits bytes.now) }
+{
+    check_place(CLASSES, header_at(bytes, CLASSES) > 64)?;
+    check_place(FIELDS, header_at(bytes, FIELDS) > 512)?;
+    check_place(METHODS, header_at(bytes, METHODS) > 256)?;
+    check_place(NODES, header_at(bytes, NODES) > 4000)?;
+    check_place(NAMES, header_at(bytes, NAMES) > 512)?;
+    check_place(TOP, header_at(bytes, TOP) == 0)
 }
 
 // A count above its limit, or an empty top-level expression, at its header place.
@@ -43,15 +53,24 @@ pub(crate) fn check_limits(bytes: &[u8]) -> Result<(), Fault>
     requires { FreeBelow bytes.now 2 }
     ensures { Looks bytes.now 2 result }
 {
-    check_table(&[
-        (CLASSES, header_at(bytes, CLASSES) > 64),
-        (FIELDS, header_at(bytes, FIELDS) > 512),
-        (METHODS, header_at(bytes, METHODS) > 256),
-        (NODES, header_at(bytes, NODES) > 4000),
-        (NAMES, header_at(bytes, NAMES) > 512),
-        (TOP, header_at(bytes, TOP) == 0),
-    ])
-    .map_err(Fault::Limit)
+    check_counts(bytes).map_err(Fault::Limit)
+}
+
+// The first header place whose offset is not the sum of what precedes, or the names' where they lie beyond the end.
+fn check_parts(bytes: &[u8]) -> Result<(), usize>
+    ensures { result_err result ≡ first_place (offsets bytes.now) }
+{
+    let part_at = |place| usize::from(header_at(bytes, place));
+    let fields = 24 + 6 * part_at(CLASSES);
+    let methods = fields + 4 * part_at(FIELDS);
+    let nodes = methods + 10 * part_at(METHODS);
+    let names = nodes + 8 * part_at(NODES);
+    check_place(CLASS_PART, part_at(CLASS_PART) != 24)?;
+    check_place(FIELD_PART, part_at(FIELD_PART) != fields)?;
+    check_place(METHOD_PART, part_at(METHOD_PART) != methods)?;
+    check_place(NODE_PART, part_at(NODE_PART) != nodes)?;
+    let is_wrong = part_at(NAME_PART) != names || names > bytes.len();
+    check_place(NAME_PART, is_wrong)
 }
 
 // An offset that is not the sum of what precedes, or names beyond the end, at its header place.
@@ -60,22 +79,7 @@ pub(crate) fn check_offsets(bytes: &[u8]) -> Result<(), Fault>
     requires { FreeBelow bytes.now 3 }
     ensures { Looks bytes.now 3 result }
 {
-    let part_at = |place| usize::from(header_at(bytes, place));
-    let fields = 24 + 6 * part_at(CLASSES);
-    let methods = fields + 4 * part_at(FIELDS);
-    let nodes = methods + 10 * part_at(METHODS);
-    let names = nodes + 8 * part_at(NODES);
-    check_table(&[
-        (CLASS_PART, part_at(CLASS_PART) != 24),
-        (FIELD_PART, part_at(FIELD_PART) != fields),
-        (METHOD_PART, part_at(METHOD_PART) != methods),
-        (NODE_PART, part_at(NODE_PART) != nodes),
-        (
-            NAME_PART,
-            part_at(NAME_PART) != names || names > bytes.len(),
-        ),
-    ])
-    .map_err(Fault::Offset)
+    check_parts(bytes).map_err(Fault::Offset)
 }
 
 // A name that is faulty, cut or the same as an earlier one; at the number after the last, bytes that follow it.
@@ -88,23 +92,27 @@ pub(crate) fn check_names(bytes: &[u8]) -> Result<(), Fault>
     check_names_in(name_bytes(bytes), count).map_err(Fault::Name)
 }
 
+// The first header place of a count that the entries' own counts do not add up to: no sum is made after it.
+fn check_sums(bytes: &[u8]) -> Result<(), usize>
+    ensures { result_err result ≡ first_place (totals bytes.now) }
+{
+    let classes = Entries::new(bytes, CLASS_PART, CLASS_SIZE);
+    let count = header_at(bytes, CLASSES);
+    let fields = classes.sum(2, count);
+    check_place(FIELDS, fields != u32::from(header_at(bytes, FIELDS)))?;
+    let methods = classes.sum(4, count);
+    check_place(METHODS, methods != u32::from(header_at(bytes, METHODS)))?;
+    let nodes = nodes_before(bytes, header_at(bytes, METHODS)) + usize::from(header_at(bytes, TOP));
+    check_place(NODES, nodes != usize::from(header_at(bytes, NODES)))
+}
+
 // A count that the entries' own counts do not add up to, at its header place.
 #[tactic(auto, using(crate::proofs::Ranks::totals_free, crate::proofs::Ranks::total_first))]
 pub(crate) fn check_totals(bytes: &[u8]) -> Result<(), Fault>
     requires { FreeBelow bytes.now 5 }
     ensures { Looks bytes.now 5 result }
 {
-    let classes = Entries::new(bytes, CLASS_PART, CLASS_SIZE);
-    let count = header_at(bytes, CLASSES);
-    let fields = classes.sum(2, count);
-    let methods = classes.sum(4, count);
-    let nodes = nodes_before(bytes, header_at(bytes, METHODS)) + usize::from(header_at(bytes, TOP));
-    check_table(&[
-        (FIELDS, fields != u32::from(header_at(bytes, FIELDS))),
-        (METHODS, methods != u32::from(header_at(bytes, METHODS))),
-        (NODES, nodes != usize::from(header_at(bytes, NODES))),
-    ])
-    .map_err(Fault::Total)
+    check_sums(bytes).map_err(Fault::Total)
 }
 
 fn is_no_name(bytes: &[u8], name: u16) -> bool

@@ -25,7 +25,6 @@ use entry::{Class, Counts, Field, Method, Strip};
 use fault::Fault;
 pub use kinds::signed_number;
 pub use layout::word_at;
-use names::Names;
 use node::Node;
 
 // The book that a file is, or the first fault why it is none. That every file is clear of faults or has one first fault
@@ -95,11 +94,6 @@ impl<'a> ReadBook<'a> {
     pub fn name(&self, n: usize) -> Option<&'a str>
         ensures { option_map (λ x. x.now) result ≡ name_at (bytes_of self.now) n }
     {
-        if n < usize::from(self.counts().names) {
-            let rest = layout::name_bytes(self.bytes);
-            str::from_utf8(Names { rest }.nth(n)?).ok()
-        } else {
-            None
-        }
+        names::name_at(self.bytes, n)
     }
 }

@@ -1,10 +1,13 @@
 // The names of a book, one after another in the name part.
 ghost use Rattle.std.specs.Prelude.{◌≡◌, ℕ, ◌<◌, true, false, Some, None, length, MatchOption};
+ghost use Rattle.std.specs.Option.{option_map};
 ghost use Rattle.std.specs.Result.{result_err};
 ghost use Rattle.std.specs.Iterator.{at_most};
 ghost use Rattle.book.specs.Counting.{any_below, Lowest};
-ghost use Rattle.book.specs.Names.{letter, letter_or_digit, letters_or_digits, spelled, cut, after_names, nth_name, same_name};
+ghost use Rattle.book.specs.Names.{letter, letter_or_digit, letters_or_digits, spelled, cut, after_names, nth_name, name_at, same_name};
 ghost use Rattle.book.specs.Faults.{wrong_name_in};
+
+use crate::layout::{NAMES, header_at, name_bytes};
 
 // The names of some bytes, one after another, up to the first that is faulty or cut.
 #[derive(Clone, Copy)]
@@ -109,5 +112,19 @@ pub(crate) fn check_names_in(bytes: &[u8], count: usize) -> Result<(), usize>
         Ok(())
     } else {
         Err(count)
+    }
+}
+
+// Name `n` of a file, if there is one.
+pub(crate) fn name_at<'a>(bytes: &'a [u8], n: usize) -> Option<&'a str>
+    ensures { option_map (λ x. x.now) result ≡ name_at bytes.now n }
+{
+    if n < usize::from(header_at(bytes, NAMES)) {
+        let rest = name_bytes(bytes);
+        let name = Names { rest }.nth(n)?;
+        // A spelled name is ASCII: its bytes need no second look.
+        Some(unsafe { str::from_utf8_unchecked(name) })
+    } else {
+        None
     }
 }
