@@ -11,7 +11,7 @@ use Rattle.store.specs.declared.records.Head.{Head}
 use Rattle.store.specs.Layouts.{Layout, held, gathered, record_of, Place, cell_of, Laid, spot_in, spot_of, lying, rewritten}
 use Rattle.store.specs.Meaning.{Rec, Store, Puts, store, handles, written, with_cell, class_at, value_at, value_in}
 use Rattle.store.specs.Numbering.{numbered, counted}
-use Rattle.store.specs.Numbered.{not_none, not_refused, length_gathered, looks, none_past}
+use Rattle.store.specs.Numbered.{not_none, not_refused, length_gathered, looks, class_of_head, next_is_free}
 use Rattle.store.proofs.Stores.{means_of, edited, store_edited}
 
 pub numbered_push : {X : Type 0} (f : X → Rec) (k : ℕ) (xs : List X) (x : X) → numbered f k (xs ++ x ∷ []) ≡ numbered f k xs ++ (k + length xs, f x) ∷ []
@@ -93,16 +93,14 @@ module _ (L : Layout) (xs : List Head) (r q : ℕ) where
   kept = store (counted (record_of L) xs r q)
 
   pub class_read : (h : ℕ) → class_at kept h ≡ option_map (λ x. x.class) (slice_get xs h)
-  unfolding class_at store
-  class_read h = ap (option_map (λ x. x.class)) (looks (record_of L) xs h) ∙ elim (slice_get xs h) as (λ o. option_map (λ x. x.class) (option_map (record_of L) o) ≡ option_map (λ x. x.class) o) [ None ↦ refl | Some x ↦ refl ]
+  class_read h = class_of_head (record_of L) xs r q (λ x. x.class) (λ x. refl) h (slice_get xs h) refl
 
   value_is : (h i : ℕ) → value_at kept h i ≡ value_in (option_map (record_of L) (slice_get xs h)) i
   unfolding value_at store
   value_is h i = ap (λ o. value_in o i) (looks (record_of L) xs h)
 
   pub free : kept.look (length xs) ≡ None
-  unfolding store
-  free = none_past (record_of L) xs (length xs) (omega arith)
+  free = next_is_free (record_of L) xs r q
 
   order_kept : (M : Layout) → handles (counted (record_of M) xs r q) ≡ handles (counted (record_of L) xs r q)
   unfolding handles

@@ -1,6 +1,6 @@
 -- Records under handles that count up from 0: what they mean is sound.
 -- Lemmas: they stand in specs/ since the ghost member `sound` of `Records` cites them.
-use Rattle.std.specs.Prelude.{◌≡◌, ℕ, zero, suc, ◌+◌, ◌<◌, ◌≤◌, true, false, cond, List, [], ◌∷◌, map, length, is_some, Some, None, nat_eq, nat_lt, ◌==◌}
+use Rattle.std.specs.Prelude.{◌≡◌, ℕ, zero, suc, ◌+◌, ◌<◌, ◌≤◌, true, false, cond, List, [], ◌∷◌, map, length, is_some, Some, None, Option, nat_eq, nat_lt, ◌==◌}
 use Rattle.std.proofs.Math.Path.{refl, sym, ap}
 use Rattle.std.proofs.Common.{◌∙◌, inl, inr, add-zero, zero-add, arith}
 use Rattle.std.proofs.lemmas.Bool.Decides.{nat_tests, leb_tells}
@@ -11,7 +11,7 @@ use Rattle.std.specs.Option.{option_map}
 use Rattle.store.specs.declared.Value.{Value}
 use Rattle.store.specs.declared.records.Head.{Head}
 use Rattle.store.specs.Layouts.{Layout, gathered, record_of, Laid, lens}
-use Rattle.store.specs.Meaning.{Rec, EachOnce, Sound, store, handles, find, cells}
+use Rattle.store.specs.Meaning.{Rec, EachOnce, Sound, store, handles, class_at, find, cells}
 use Rattle.store.specs.Numbering.{numbered, counted, Counts}
 
 -- a refusal's clause where nothing was refused
@@ -46,6 +46,10 @@ module _ {X : Type 0} (f : X → Rec) where
   nth_handles k n [] = grind (arith, nat_tests)
   nth_handles k zero (x ∷ xs) = let e = add-zero k in grind (arith, nat_tests)
   nth_handles k (suc n) (x ∷ xs) = let ih = nth_handles (suc k) n xs in let e : suc k + n ≡ k + suc n = omega arith in grind (arith, nat_tests)
+
+classes : {X : Type 0} (f : X → Rec) (class : X → ℕ) → ((x : X) → (f x).class ≡ class x) → (o : Option X) → option_map (λ x. x.class) (option_map f o) ≡ option_map class o
+classes f class same None = refl
+classes f class same (Some x) = ap Some (same x)
 
 module _ {X : Type 0} (f : X → Rec) (xs : List X) where
   -- the record under h is that of the h-th head
@@ -96,6 +100,36 @@ module _ {X : Type 0} (f : X → Rec) (xs : List X) (r q : ℕ) where
         once = λ n k h d e. let a = handle_same n h d in let b = handle_same k h e in omega arith;
       }
 
+  -- the class in the head that was read at h
+  pub class_of_head : (class : X → ℕ) → ((x : X) → (f x).class ≡ class x) → (h : ℕ) (o : Option X) → o ≡ slice_get xs h → class_at (store (counted f xs r q)) h ≡ option_map class o
+  unfolding class_at store
+  class_of_head class same h o e = ap (option_map (λ x. x.class)) (looks f xs h ∙ ap (option_map f) (sym e)) ∙ classes f class same o
+
+  -- no record has the handle that is given next
+  pub next_is_free : (store (counted f xs r q)).look (length xs) ≡ None
+  unfolding store
+  next_is_free = none_past f xs (length xs) (omega arith)
+
+  -- where the records take u cells
+  module _ (u : ℕ) (used : cells (numbered f 0 xs) ≡ u) where
+    pub counts_of_cells : (n : ℕ) → n ≡ length xs → Counts (store (counted f xs r q)) n u r q
+    unfolding store
+    counts_of_cells n e = (length_numbered f 0 xs ∙ sym e, used, refl, refl)
+
+    pub sound_in_bounds : length xs ≤ r → u ≤ q → r ≤ 4096 → q ≤ 65535 → Sound (counted f xs r q)
+    unfolding store
+    sound_in_bounds a b c d =
+        let n = length_numbered f 0 xs in
+        record {
+          each_once = each_once;
+          bounded = record {
+            low_handles = λ h x e. let l = low f xs h x e in omega arith;
+            few_records = omega arith;
+            few_cells = omega arith;
+            bounds = grind (arith, nat_tests);
+          };
+        }
+
 -- records in a layout
 pub length_gathered : (row : List Value) (spot : ℕ → ℕ) (n : ℕ) → length (gathered row spot n) ≡ n
 length_gathered row spot zero = refl
@@ -107,21 +141,8 @@ cells_numbered L k (x ∷ xs) = let ih = cells_numbered L (suc k) xs in let l = 
 
 module _ (L : Layout) (xs : List Head) (r q : ℕ) (laid : Laid xs L) where
   pub counts_are : (n : ℕ) → n ≡ length xs → Counts (store (counted (record_of L) xs r q)) n (length L.row) r q
-  unfolding store
-  counts_are n e = (length_numbered (record_of L) 0 xs ∙ sym e, cells_numbered L 0 xs ∙ laid.total, refl, refl)
+  counts_are = counts_of_cells (record_of L) xs r q (length L.row) (cells_numbered L 0 xs ∙ laid.total)
 
   pub is_sound : (n : ℕ) → n ≡ length xs → (n ≤ r) × (length L.row ≤ q) → (r ≤ 4096) × (q ≤ 65535) → Sound (counted (record_of L) xs r q)
-  unfolding store
   is_sound n e few bounds =
-      let f = record_of L in
-      let m = length_numbered f 0 xs in
-      let u = cells_numbered L 0 xs ∙ laid.total in
-      record {
-        each_once = each_once f xs r q;
-        bounded = record {
-          low_handles = λ h x a. let l = low f xs h x a in omega (arith, few.0, bounds.0);
-          few_records = omega (arith, few.0);
-          few_cells = omega (arith, few.1);
-          bounds = grind (arith, nat_tests);
-        };
-      }
+      sound_in_bounds (record_of L) xs r q (length L.row) (cells_numbered L 0 xs ∙ laid.total) (omega (arith, few.0)) few.1 bounds.0 bounds.1
